@@ -48,7 +48,7 @@ class Names(unittest.TestCase):
                        for n in LENGTHS for _ in range(40)).encode()  # fmt: skip
         places = np.arange(len(text))
         words, lengths = names_at(Block(text), places)
-        for place, word, length in zip(places, words.tolist(), lengths):
+        for place, word, length in zip(places, words.view(f"S{LONGEST}")[:, 0].tolist(), lengths):
             until = (text + PADDING)[place : place + LONGEST + 1].find(b" ")
             self.assertEqual(length, max(until, 0))
             if length:

@@ -96,6 +96,16 @@ def cell(value: object) -> str:
     return shown(str(value))
 
 
+def is_whole(values: Sequence) -> bool:
+    """Has a column whole numbers alone? Most have."""
+    return {*map(type, values)} == {int}
+
+
+def cells_of(values: Sequence) -> list[str]:
+    """The values of a column as they stand in a table."""
+    return list(map(str, values)) if is_whole(values) else list(map(cell, values))
+
+
 def link_words(row: Row) -> str:
     """The number of a row's link, and what its messages are called, where that is known."""
     return f"{row['link']} ({row['message']})" if row.get("message") else f"{row['link']}"
@@ -113,9 +123,9 @@ def by_column(rows: Sequence[Row]) -> Iterator[tuple[str, Sequence]]:
 
 def even(name: str, values: Sequence) -> list[str]:
     """A column with its name above it, all of one width; numbers stand to the right."""
-    cells = [name, *map(cell, values)]
+    cells = [name, *cells_of(values)]
     width = max(map(len, cells))
-    is_number = all(value is None or isinstance(value, (int, float)) for value in values)
+    is_number = all(issubclass(kind, (int, float, type(None))) for kind in {*map(type, values)})
     return [each.rjust(width) if is_number else each.ljust(width) for each in cells]
 
 
@@ -144,10 +154,16 @@ def quoted(value: str) -> str:
     return f'"{text.replace(chr(34), 2 * chr(34))}"' if set(text) & set(',;"') else text
 
 
+def plains(values: Sequence) -> list[str]:
+    """The values of a column as they stand in a CSV file."""
+    return list(map(str, values)) if is_whole(values) else list(map(plain, values))
+
+
 def csv_text(rows: Sequence[Row], columns: Sequence[str] = ()) -> str:
     """Rows as the text of a CSV file; where there are none these columns are its head."""
-    lines = [heads(rows) or columns, *(row.values() for row in rows)]
-    return "".join(",".join(map(plain, line)) + "\n" for line in lines)
+    lines = zip(*(plains(values) for _, values in by_column(rows)))
+    head = map(plain, heads(rows) or columns)
+    return "".join(",".join(line) + "\n" for line in (head, *lines))
 
 
 def over_time(arrivals: Row) -> list[Row]:

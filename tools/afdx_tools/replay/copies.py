@@ -5,10 +5,10 @@ from dataclasses import dataclass
 
 import numpy as np
 
-from afdx_tools.replay.counting import Counting
+from afdx_tools.replay.counting import Counting, order_of
 from afdx_tools.replay.events import ACCEPT, DELIVERED
 from afdx_tools.replay.silence import Silences
-from afdx_tools.replay.traffic import NUMBERED, grouped, of_kinds, order_of
+from afdx_tools.replay.traffic import NUMBERED, grouped, of_kinds
 
 HALF_ROUND = 127  # BAGs in which the numbers of a link go half round
 NEVER = np.iinfo(np.int64).max

@@ -161,16 +161,15 @@ class Counting:
         asked = (self.promised if is_whole else self.configured)[at]
         keys = (self.links[at].astype(np.int64) * self.ports + self.events.port[at]) * 2
         keys += self.sides[at]
-        order = sorted_by(keys, latency)
+        order = order_of(keys)
         keys, at, latency, late = keys[order], at[order], latency[order], (latency > asked)[order]
         bounds = np.flatnonzero(np.diff(keys, prepend=-1, append=-1))
         paths = []
         for begin, end in zip(bounds[:-1], bounds[1:]):
-            seen = latency[begin:end]
-            key = int(keys[begin])
-            worst = int(at[begin + np.searchsorted(seen, seen[-1])])
+            seen, key = latency[begin:end], int(keys[begin])
+            worst, count = int(at[begin + np.argmax(seen)]), int(late[begin:end].sum())
             link, port = self.vls[key // 2 // self.ports], key // 2 % self.ports
-            paths.append(Path(link, port, key % 2, seen, worst, int(late[begin:end].sum())))
+            paths.append(Path(link, port, key % 2, np.sort(seen), worst, count))
         return paths
 
     @functools.cached_property
@@ -208,6 +207,15 @@ class Counting:
             if len(times):
                 found[word] = np.bincount(steps.of(times), minlength=steps.count)
         return steps, found
+
+
+def order_of(keys: np.ndarray) -> np.ndarray:
+    """The order by keys below 2 ** 32, equal ones as they stand: by two halves of 16 bits, which
+    numpy sorts several times faster."""
+    low = (keys & 0xFFFF).astype(np.uint16)
+    order = np.argsort(low, kind="stable")
+    high = (keys >> 16).astype(np.uint16)
+    return order[np.argsort(high[order], kind="stable")] if high.any() else order
 
 
 def sorted_by(keys: np.ndarray, values: np.ndarray) -> np.ndarray:

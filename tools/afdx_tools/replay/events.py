@@ -103,8 +103,10 @@ class Events:
             report(int(lines[-1]))
         found = [self.lost(block), self.departed(block), self.old(block)]
         part = {name: np.concatenate([one[name] for one in found]) for name in found[0]}
-        order = np.argsort(part["at"], kind="stable")
-        self.parts.append({name: column[order] for name, column in part.items()})
+        if len(found[0]["at"]) or len(found[2]["at"]):  # else all left, and stand in their order
+            order = np.argsort(part["at"], kind="stable")
+            part = {name: column[order] for name, column in part.items()}
+        self.parts.append(part)
 
     def judged(self, block: Block) -> np.ndarray:
         """`V n PLACE accept` or `V n PLACE drop WORD`"""

@@ -10,6 +10,7 @@ from afdx_tools.replay.lines import SPACE, Block
 
 UNKNOWN = -1  # the number of a switch that the configuration doesn't have
 LONGEST = 16  # characters of a name
+FACTORS = range(1, 1_000_000, 2)  # with one of them the numbers of all names are different
 
 
 class Sites:
@@ -18,8 +19,13 @@ class Sites:
 
     def __init__(self, names: Sequence[str] = ()) -> None:
         self.names = tuple(names)
-        self.order = np.array(sorted(range(len(names)), key=names.__getitem__), np.int16)
-        self.sorted = np.array([names[n].encode() for n in self.order], f"S{LONGEST}")
+        known = np.array([name.encode() for name in names], f"S{LONGEST}")
+        letters = known.view("<u8").reshape(-1, 2)
+        differing = (n for n in FACTORS if len(np.unique(mixed(letters, n))) == len(names))
+        self.factor = next(differing, 1)
+        keys = mixed(letters, self.factor)
+        self.order = np.argsort(keys).astype(np.int16)
+        self.keys, self.letters = keys[self.order], letters[self.order]
 
     @property
     def are_several(self) -> bool:
@@ -31,16 +37,23 @@ class Sites:
         one, and where the place ends."""
         if not self.names:
             return np.zeros(len(at), np.int16), at + 1
-        words, length = names_at(block, at + 2)
-        is_name = (length > 0) & (block.at(at + 1) == SPACE)
-        place = np.minimum(np.searchsorted(self.sorted, words), len(self.names) - 1)
-        is_known = is_name & (self.sorted[place] == words)
+        letters, length = names_at(block, at + 2)
+        place = np.searchsorted(self.keys, mixed(letters, self.factor))
+        place = np.minimum(place, len(self.names) - 1)
+        is_known = (length > 0) & (block.at(at + 1) == SPACE)
+        for part in (0, 1):
+            is_known &= self.letters[place, part] == letters[:, part]
         return np.where(is_known, self.order[place], UNKNOWN), at + 2 + length
 
 
+def mixed(letters: np.ndarray, factor: int) -> np.ndarray:
+    """One number for the two that the letters of a name are."""
+    return letters[:, 0] * np.uint64(factor) + letters[:, 1]
+
+
 def names_at(block: Block, at: np.ndarray) -> tuple[np.ndarray, np.ndarray]:
-    """The words that begin there and end with a space, and how long they are: 0 where one is longer
-    than a name."""
+    """The letters of the words that begin there and end with a space, eight in a number, and how
+    many they are: 0 where they are more than a name has."""
     letters = np.zeros((len(at), LONGEST // 8), "<u8")
     length = np.zeros(len(at), np.int64)
     left = np.arange(len(at))
@@ -53,4 +66,4 @@ def names_at(block: Block, at: np.ndarray) -> tuple[np.ndarray, np.ndarray]:
         left = left[own == 8]
     is_cut = left[block.at(at[left] + LONGEST) != SPACE]
     length[is_cut] = 0
-    return letters.view(f"S{LONGEST}")[:, 0], length
+    return letters, length

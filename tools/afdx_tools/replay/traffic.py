@@ -6,7 +6,7 @@ from dataclasses import dataclass
 import numpy as np
 
 from afdx_tools.config import Link
-from afdx_tools.replay.counting import WIRE_EXTRA, Counting
+from afdx_tools.replay.counting import WIRE_EXTRA, Counting, order_of
 from afdx_tools.replay.events import ACCEPT
 
 NUMBERED = (ACCEPT, "over-rate", "over-lmax", "under-lmin")  # their bytes are those of a sender
@@ -43,15 +43,6 @@ def of_kinds(counting: Counting, words: tuple[str, ...]) -> np.ndarray:
     """The lines whose verdict is one of these words."""
     codes = [counting.events.verdicts.names.index(word) for word in words]
     return counting.arrived[np.isin(counting.events.verdict[counting.arrived], codes)]
-
-
-def order_of(keys: np.ndarray) -> np.ndarray:
-    """The order by keys below 2 ** 32, equal ones as they stand: by two halves of 16 bits, which
-    numpy sorts several times faster."""
-    low = (keys & 0xFFFF).astype(np.uint16)
-    order = np.argsort(low, kind="stable")
-    high = (keys >> 16).astype(np.uint16)
-    return order[np.argsort(high[order], kind="stable")] if high.any() else order
 
 
 def grouped(keys: np.ndarray) -> dict[int, np.ndarray]:

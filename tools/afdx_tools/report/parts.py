@@ -6,7 +6,7 @@ from typing import Collection, Sequence
 
 from afdx_tools.known import findings
 from afdx_tools.report.where import Where, named_in
-from afdx_tools.tables import Row, by_column, cell, heads
+from afdx_tools.tables import Row, by_column, cell, cells_of, heads, is_whole
 
 MOST_ROWS = 10_000  # of a table on a page
 LONG = 60  # rows that don't find room in a box
@@ -70,7 +70,9 @@ def share_of(row: Row) -> float:
 def words_in(name: str, values: Sequence) -> list[str]:
     """The values of a column as they stand on the page."""
     if is_plain(name):
-        return list(map(cell, values))
+        return cells_of(values)
+    if is_whole(values):
+        return list(map("{:,}".format, values))
     return [f"{value:,}" if isinstance(value, int) else cell(value) for value in values]
 
 
