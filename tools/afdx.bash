@@ -201,8 +201,8 @@ _afdx_takes() { # COMMAND : its options, and those that take a value
             valued=()
             ;;
         'afdx solve')
-            options=(--keep --raise-only --explain --help)
-            valued=(--keep)
+            options=(--keep --raise-only --apart --explain --help)
+            valued=(--keep --apart)
             ;;
         'afdx-campaign')
             options=(--help --version --out --no-admission --pages --jobs --resume --sshlogin \
@@ -230,8 +230,8 @@ _afdx_takes() { # COMMAND : its options, and those that take a value
             valued=(--keep)
             ;;
         'afdx-icd')
-            options=(--help --version --cables --profile --fill --raise --reserve --since)
-            valued=(--cables --profile --reserve --since)
+            options=(--help --version --cables --profile --fill --raise --reserve --apart --since)
+            valued=(--cables --profile --reserve --apart --since)
             ;;
         'afdx-report')
             options=(--help --version --out --no-admission --link --from --rows --worst --compare \

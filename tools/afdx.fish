@@ -60,9 +60,9 @@ end
 # printed by bin/pages
 set -g __afdx_valued --slack --between --drift --inner --asked --from --until --leave-out --switch \
     --interface --left --fcs --reorder --stamps --origin --vl --port --lmin --policing --keep \
-    --out -j --jobs -S --sshlogin --taps --fail-on --junit --config -o --split --side --conform \
-    --cables --profile --reserve --since --link --rows --worst --compare --title --cover --seconds \
-    --seed
+    --apart --out -j --jobs -S --sshlogin --taps --fail-on --junit --config -o --split --side \
+    --conform --cables --profile --reserve --since --link --rows --worst --compare --title --cover \
+    --seconds --seed
 
 complete -c afdx -f
 complete -c afdx -n '__afdx_at - 0 0' -l help -d 'Print help and leave'
@@ -210,6 +210,8 @@ complete -c afdx -n '__afdx_at - 0 0' -a solve \
 complete -c afdx -n '__afdx_in solve' -x -l keep -a '(__afdx_list jitter buffer latency skew)' \
     -d 'Keys that keep their values'
 complete -c afdx -n '__afdx_in solve' -l raise-only -d 'Lowers no value'
+complete -c afdx -n '__afdx_in solve' -x -l apart \
+    -d 'By how many ns later one copy of a frame may be sent than the other'
 complete -c afdx -n '__afdx_in solve' -l explain -a 'auto always never' \
     -d 'When a fault is explained, behind its one line'
 complete -c afdx -n '__afdx_in solve' -l help -d 'Print help'
@@ -320,6 +322,8 @@ complete -c afdx-icd -l fill \
     -d 'an empty cell that has to have a value has that of the cell above'
 complete -c afdx-icd -l raise -d 'write it also where messages can\'t be in time'
 complete -c afdx-icd -x -l reserve -d 'let latencies and buffer be so much more than is needed'
+complete -c afdx-icd -x -l apart \
+    -d 'by how many ns one copy of a frame may be sent later than the other'
 complete -c afdx-icd -x -l since -a '(__afdx_files toml)' -d 'an earlier configuration'
 complete -c afdx-icd -n '__afdx_at - 0 0' -a '(__afdx_files csv)'
 complete -c afdx-icd -n '__afdx_at - 1 1' -a '(__afdx_files csv)'

@@ -139,6 +139,7 @@ _afdx_takes() { # COMMAND
     'afdx solve')
         _arguments '--keep=[Keys that keep their values]: :_values -s , word jitter buffer latency skew' \
             '--raise-only[Lowers no value]' \
+            '--apart=[By how many ns later one copy of a frame may be sent than the other]:ns:' \
             '--explain=-[When a fault is explained, behind its one line]:: :(auto always never)' \
             $help \
             ':config:_files -g "*.toml(-.)"'
@@ -217,6 +218,7 @@ _afdx_takes() { # COMMAND
             '--fill[an empty cell that has to have a value has that of the cell above]' \
             '--raise[write it also where messages can'\''t be in time]' \
             '--reserve=[let latencies and buffer be so much more than is needed]:percent:' \
+            '--apart=[by how many ns one copy of a frame may be sent later than the other]:ns:' \
             '--since=[an earlier configuration]:old:_files -g "*.toml(-.)"' \
             ':systems.csv:_files -g "*.csv(-.)"' \
             ':messages.csv:_files -g "*.csv(-.)"' \

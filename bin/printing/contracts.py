@@ -40,7 +40,7 @@ FILES = "| In `specs/` | What it defines |\n|---|---|\n"
 def has_page(crate: str) -> bool:
     """It has calls for others: it is no program, and no tests."""
     library = (CRATES / crate / "src/lib.rt").is_file()
-    return library and not re.search("_(tests|samples|bench)$", crate)
+    return library and not crate.startswith("afdx_test_")
 
 
 def exported(crate: str) -> tuple[set[str], set[str]]:

@@ -219,7 +219,7 @@ TABLES: dict[str, Tables] = {
         "why a switch drops a frame": dropped,
         "keys of a configuration": keys,
         "faults of a configuration": config_faults,
-        "lines of check": lambda rows: lines(rows, "P ", "m ", "S ", "E "),
+        "lines of check": lambda rows: lines(rows, "P ", "m ", "S ", "E ", "apart vl "),
         "conditions of admission": admission,
         "lines of solve": lambda rows: lines(
             rows, "vl ", heading="| Line on standard error | Meaning |"),

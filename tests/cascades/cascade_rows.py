@@ -140,6 +140,8 @@ P 20 0 0 0
 E 1 s4 22000
 E 1 s3 33000
 """
+TWO_LEFT = "apart 1 976520\napart 2 969520\n"  # what their links leave the copies of frames
+
 TWO_MARGINS = """\
 S fwd
 P 1 6720 10222 128
@@ -229,8 +231,8 @@ def limit_rows() -> list[Row]:
 ROWS = [
     Row("two switches", TWO_TEXT, (), f"{TWO_BOUNDS}ok\n"),
     Row("two switches, all", TWO_TEXT, ("--all",), f"{TWO_BOUNDS}ok\n"),
-    Row("two switches, margins", TWO_TEXT, ("--margins",), f"{TWO_MARGINS}ok\n"),
-    Row("two switches, both", TWO_TEXT, ("--margins", "--all"), f"{TWO_MARGINS}ok\n"),
+    Row("two switches, margins", TWO_TEXT, ("--margins",), f"{TWO_MARGINS}ok\n{TWO_LEFT}"),
+    Row("two switches, both", TWO_TEXT, ("--margins", "--all"), f"{TWO_MARGINS}ok\n{TWO_LEFT}"),
     Row("three switches", THREE_TEXT, (), f"{THREE_BOUNDS}ok\n"),
     Row("a slow cable", text_with(THREE, SLOW_CABLE), (), "E 1 s3 1485000\nok\n"),
     *last_rows(),

@@ -87,15 +87,16 @@ def must_be_below(found: dict, others: dict, why: str) -> None:
 
 
 def check_solve(
-    program: Program, text: bytes, keep: Collection[str] = (), raise_only: bool = False
+    program: Program, text: bytes, keep: Collection[str] = (), raise_only: bool = False,
+    apart: int = 0,
 ) -> bytes | None:
     """`solve` answers what is computed here; the configuration that it writes, if it does, which
     `check` admits, and which is the same when it is solved again."""
-    wanted = solve_cascade_answer(text, keep, raise_only)
-    answers(solve(program, text, keep, raise_only), wanted.status, wanted.out, wanted.err)
+    wanted = solve_cascade_answer(text, keep, raise_only, apart)
+    answers(solve(program, text, keep, raise_only, apart), wanted.status, wanted.out, wanted.err)
     if wanted.status != 0:
         return None
-    check_solution(program, wanted.out, keep, raise_only)
+    check_solution(program, wanted.out, keep, raise_only, apart)
     return wanted.out
 
 

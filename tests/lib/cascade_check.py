@@ -5,7 +5,8 @@ from __future__ import annotations
 from typing import Iterator
 
 from cascade import own_names
-from least import false_lines, port_lines
+from frames import byte_ns
+from least import apart_line, false_lines, left_apart, port_lines
 
 CONTRACT = ("bag_ms", "lmin", "lmax", "policing")  # what a link's rows have alike
 MOST_SWITCHES = 24
@@ -99,11 +100,54 @@ def end_lines(switches: list[dict]) -> Iterator[str]:
                     yield f"E {vl} {system['name']} {ns}"
 
 
+def byte_times(switches: list[dict], switch: dict, system: str, way: list[dict]) -> int:
+    """The times of a byte on the lines of a way, summed: on each cable, and to the system at its
+    end."""
+    named = {each["name"]: each for each in switches}
+    total = sum(byte_ns(end) for end in switch["system"] if end["name"] == system)
+    for row in reversed(way[1:]):
+        cable = next(end for end in switch["neighbour"] if end["name"] == row["from"])
+        total, switch = total + byte_ns(cable), named[row["from"]]
+    return total
+
+
+def left_by_row(switches: list[dict], switch: dict, vl: int) -> list[int]:
+    """What a link's row at a switch leaves the copies of its frames, of each system there."""
+    ways = Ways(switches)
+    row, way = ways.rows.get((switch["name"], vl)), ways.way_to(switch["name"], vl)
+    if row is None or way is None:
+        return []
+    return [
+        left_apart(row, way, byte_times(switches, switch, name, way))
+        for name in row["to"]
+        if name in ways.own[switch["name"]]
+    ]
+
+
+def apart_lines(switches: list[dict]) -> Iterator[str]:
+    """What each link leaves the copies of its frames."""
+    for vl in dict.fromkeys(link["vl"] for switch in switches for link in switch["link"]):
+        yield apart_line(vl, [ns for sw in switches for ns in left_by_row(switches, sw, vl)])
+
+
+def short_row(switches: list[dict], apart: int) -> str:
+    """The line of the first row that leaves less than is asked for, or nothing."""
+    for switch in switches:
+        for link in switch["link"]:
+            least = min(left_by_row(switches, switch, link["vl"]), default=apart)
+            if least < apart:
+                return f"no apart {switch['name']} {link['vl']} {least}"
+    return ""
+
+
 def check_lines(cascade: dict, is_all: bool, with_margins: bool = False) -> list[str]:
     """What `check` writes of a cascade without a fault, with its options or without them."""
     switches = cascade["switch"]
     lines = []
     for switch in switches:
         lines += [f"S {switch['name']}", *port_lines(switch, with_margins)]
-    answer = cascade_false_lines(switches) or ["ok"]
-    return [*lines, *end_lines(switches), *(answer if is_all else answer[:1])]
+    false = cascade_false_lines(switches)
+    answer = false if is_all else false[:1]
+    if not false:
+        answer = ["ok", *(apart_lines(switches) if with_margins else ())]
+    return [*lines, *end_lines(switches), *answer]

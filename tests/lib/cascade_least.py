@@ -5,7 +5,7 @@ from __future__ import annotations
 from typing import Collection, NamedTuple
 
 from cascade import TOP_ORDER, cascade_text, loaded
-from cascade_check import Ways, cascade_false_lines, latency_sum
+from cascade_check import Ways, cascade_false_lines, latency_sum, short_row
 from first_fault import ALL_KEYS, LATE_US, ROWS, config_fault
 from least import SOLVED, Choice, jitters_of, lawful_tables, needs, quotient_up, with_buffer
 from least import with_latencies
@@ -62,21 +62,23 @@ def with_way_jitters(switches: list[dict], choice: Choice) -> list[dict]:
 
 
 def with_way_skews(switches: list[dict], choice: Choice) -> list[dict]:
-    """The skews: a row's latency, or that of its whole way where the row goes to a system."""
+    """The skews: a row's latency, or where the row goes to a system that of its whole way and how
+    far apart copies may be sent."""
     ways = Ways(switches)
     found = {}
     for (name, vl), row in ways.rows.items():
         way = ways.way_to(name, vl) if ways.own[name].intersection(row["to"]) else None
-        enough = max(row["latency_us"], latency_sum(way or []))
+        late = 0 if way is None else latency_sum(way) + quotient_up(choice.apart, 1000)
+        enough = max(row["latency_us"], late)
         found[name, vl] = choice.written(row, "link", SOLVED["skew"], enough)
     return [with_link_keys(switch, SOLVED["skew"], found) for switch in switches]
 
 
 def solved_cascade(
-    cascade: dict, keep: Collection[str] = (), raise_only: bool = False
+    cascade: dict, keep: Collection[str] = (), raise_only: bool = False, apart: int = 0
 ) -> SolvedCascade:
     """The least values, by rounds: each rests on those before it as they are written."""
-    choice = Choice([SOLVED[word] for word in keep], raise_only)
+    choice = Choice([SOLVED[word] for word in keep], raise_only, apart)
     switches = [begun(switch, choice) for switch in cascade["switch"]]
     while True:
         switches = with_way_jitters(switches, choice)
@@ -85,7 +87,8 @@ def solved_cascade(
             break
         switches = later
     switches = [with_buffer(sw, choice) for sw in with_way_skews(switches, choice)]
-    return SolvedCascade(switches, next(iter(cascade_false_lines(switches)), ""))
+    fault = next(iter(cascade_false_lines(switches)), "")
+    return SolvedCascade(switches, fault or short_row(switches, apart))
 
 
 # ---- what `solve` answers ------------------------------------------------------------------------
@@ -137,14 +140,14 @@ def cascade_needs(asked: list[dict], switches: list[dict]) -> bytes:
 
 
 def solve_cascade_answer(
-    text: bytes, keep: Collection[str] = (), raise_only: bool = False
+    text: bytes, keep: Collection[str] = (), raise_only: bool = False, apart: int = 0
 ) -> Answer:
     """What `solve` answers to a file of several switches, or to one with a fault."""
     fault = solve_file_fault(text, keep)
     if fault:
         return Answer(1, b"", fault)
     asked = loaded(text)
-    found = solved_cascade(asked, keep, raise_only)
+    found = solved_cascade(asked, keep, raise_only, apart)
     if found.fault:
         return Answer(1, f"{found.fault}\n".encode(), b"")
     return Answer(0, solved_text(found.switches), cascade_needs(asked["switch"], found.switches))

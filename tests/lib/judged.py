@@ -22,20 +22,29 @@ def checked(program: Program, tables: dict, *options: str) -> Answer:
     return program.run("check", *options, "/dev/stdin", given=made.text_of(tables))
 
 
-def solve(program: Program, text: bytes, keep: Collection[str], raise_only: bool) -> Answer:
-    """What `solve` answers."""
+def solve(
+    program: Program, text: bytes, keep: Collection[str], raise_only: bool, apart: int = 0
+) -> Answer:
+    """What `solve` answers; an `apart` of 0 isn't said."""
     options = ["--keep", ",".join(keep)] if keep else []
     options += ["--raise-only"] if raise_only else []
+    options += ["--apart", str(apart)] if apart else []
     return program.run("solve", *options, "/dev/stdin", given=text)
 
 
 def check_solution(
-    program: Program, text: bytes, keep: Collection[str], raise_only: bool
+    program: Program, text: bytes, keep: Collection[str], raise_only: bool, apart: int = 0
 ) -> None:
-    """`check` admits what `solve` wrote, and it is the same when it is solved again."""
-    found = program.run("check", "/dev/stdin", given=text)
-    must(found.status == 0 and found.out.endswith(b"ok\n"), "check doesn't admit what is written")
-    answers(solve(program, text, keep, raise_only), 0, text, b"")
+    """`check` admits what `solve` wrote, and says that each link leaves what was asked for; it is
+    the same when it is solved again."""
+    found = program.run("check", "--margins", "/dev/stdin", given=text)
+    lines = found.out.decode().splitlines()
+    must(found.status == 0 and "ok" in lines, "check doesn't admit what is written")
+    behind = [line.split() for line in lines[lines.index("ok") + 1:]]
+    less = [vl for word, vl, ns in behind if word != "apart" or ns == "-" or int(ns) < apart]
+    must(not less, f"links {less} leave less than {apart}")
+    must(len(behind) == len({vl for _, vl, _ in behind}), "a link stands twice")
+    answers(solve(program, text, keep, raise_only, apart), 0, text, b"")
 
 
 def false_of(program: Program, tables: dict) -> list[list[str]]:

@@ -135,6 +135,29 @@ def port_lines(tables: dict, with_margins: bool = False) -> Iterator[str]:
             yield f"m {output.port} {link['vl']} {told(bound)} {1000 * link['latency_us']}"
 
 
+def left_apart(row: dict, way: list[dict], byte_times: int) -> int:
+    """How far apart the copies of a frame may be sent, in ns, that go to a system over rows whose
+    lines take so long for a byte, summed: both may come to it no further apart than its row's
+    skew, and one may take all latencies, the other only the time on the lines of the shortest
+    frame, with 8 bytes before it on each."""
+    latency = sum(1000 * each["latency_us"] for each in way)
+    sooner = max(0, latency - (row["lmin"] + 8) * byte_times)
+    return max(0, 1000 * row["skew_us"] - sooner)
+
+
+def apart_line(vl: int, left: list[int]) -> str:
+    """What a link leaves the copies of its frames, by what it leaves to each receiver."""
+    return f"apart {vl} {min(left, default='-')}"
+
+
+def apart_lines(tables: dict) -> Iterator[str]:
+    """The same of each link, where there is one switch on a side."""
+    a_byte = {system["name"]: byte_ns(system) for system in tables["system"]}
+    for link in tables["link"]:
+        left = [left_apart(link, [link], a_byte[name]) for name in link["to"]]
+        yield apart_line(link["vl"], left)
+
+
 def false_at(output: Output, buffer: int) -> Iterator[str]:
     """The lines that are false at an output port: A1, A2, A3 of high links, A4 of low ones."""
     if output.load(output.links) > UNITS:
@@ -163,10 +186,13 @@ def false_lines(tables: dict) -> list[str]:
     return lines
 
 
-def check_text(tables: dict, is_all: bool) -> bytes:
-    """What `check` writes of tables without a fault, with `--all` or without it."""
-    answer = false_lines(tables) or ["ok"]
-    lines = [*port_lines(tables), *(answer if is_all else answer[:1])]
+def check_text(tables: dict, is_all: bool, with_margins: bool = False) -> bytes:
+    """What `check` writes of tables without a fault, with its options or without them."""
+    false = false_lines(tables)
+    answer = false if is_all else false[:1]
+    if not false:
+        answer = ["ok", *(apart_lines(tables) if with_margins else ())]
+    lines = [*port_lines(tables, with_margins), *answer]
     return "".join(f"{line}\n" for line in lines).encode()
 
 
@@ -182,11 +208,12 @@ class Solved(NamedTuple):
 
 
 class Choice(NamedTuple):
-    """What is asked of the values that are written: which keys stay as they are, and whether none
-    may be less than in the file."""
+    """What is asked of the values that are written: which keys stay as they are, whether none may
+    be less than in the file, and by how many ns one copy may be sent later than the other."""
 
     keep: Collection[str] = ()
     raise_only: bool = False
+    apart: int = 0
 
     def written(
         self, row: dict, part: str, key: str, enough: int | None, late_us: int = 0
@@ -234,21 +261,31 @@ def with_latencies(tables: dict, choice: Choice) -> dict:
 
 
 def with_skews(tables: dict, choice: Choice) -> dict:
-    """The skews, from the latencies."""
+    """The skews, from the latencies and how far apart copies may be sent."""
     links = []
     for link in tables["link"]:
-        skew = choice.written(link, "link", "skew_us", link["latency_us"])
+        enough = link["latency_us"] + quotient_up(choice.apart, 1000)
+        skew = choice.written(link, "link", "skew_us", enough)
         links.append(link | {"skew_us": skew})
     return tables | {"link": links}
 
 
-def solved(tables: dict, keep: Collection[str] = (), raise_only: bool = False) -> Solved:
+def short_line(lines: Iterator[str], apart: int) -> str:
+    """The line of the first link that leaves less than is asked for, or nothing."""
+    less = (line for line in lines if "-" not in line and int(line.split()[-1]) < apart)
+    return next((f"no {line}" for line in less), "")
+
+
+def solved(
+    tables: dict, keep: Collection[str] = (), raise_only: bool = False, apart: int = 0
+) -> Solved:
     """What `solve` makes of tables that have no fault for it: each key from those before it as
     written."""
-    choice = Choice([SOLVED[word] for word in keep], raise_only)
+    choice = Choice([SOLVED[word] for word in keep], raise_only, apart)
     for step in (with_jitters, with_buffer, with_latencies, with_skews):
         tables = step(tables, choice)
-    return Solved(tables, next(iter(false_lines(tables)), ""))
+    fault = next(iter(false_lines(tables)), "")
+    return Solved(tables, fault or short_line(apart_lines(tables), apart))
 
 
 def needs(asked: dict, tables: dict) -> list[str]:
@@ -305,14 +342,16 @@ class Told(NamedTuple):
     errors: list[str]
 
 
-def solve_answer(text: bytes, keep: Collection[str] = (), raise_only: bool = False) -> Told:
+def solve_answer(
+    text: bytes, keep: Collection[str] = (), raise_only: bool = False, apart: int = 0
+) -> Told:
     """What `solve` answers to a configuration."""
     fault = solve_fault(text, keep)
     if fault:
         return Told(1, None, "", [fault])
     tables: dict = {"system": [], "link": [], "port": []}
     tables |= tomllib.loads(text.decode("utf-8"))
-    found = solved(tables, keep, raise_only)
+    found = solved(tables, keep, raise_only, apart)
     if found.fault:
         return Told(1, None, found.fault, [])
     return Told(0, found.tables, "", needs(tables, found.tables))

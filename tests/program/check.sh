@@ -58,7 +58,8 @@ all_with 'all lines: an overloaded port' 1 \
     '0,/^lmax = 64/s//lmax = 1518/; /^id = 3/,/^rate/s/^rate = 100/rate = 10/'
 
 margins=$idle$'P 3 16800 20297 252\nm 3 1 16800 17000\nm 3 2 20297 21000\n'
-case_of 'margins: base.toml' 0 "$margins"$'ok\n' '' check --margins examples/base.toml
+left=$'ok\napart 1 988760\napart 2 984760\n'
+case_of 'margins: base.toml' 0 "$margins$left" '' check --margins examples/base.toml
 sed 's/^latency_us = 21/latency_us = 20/; s/^buffer = 252/buffer = 251/' examples/base.toml \
     >"$work/changed.toml"
 margins=${margins/21000/20000}

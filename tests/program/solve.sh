@@ -44,6 +44,12 @@ solve_with 'raised only' 's/^latency_us = .*/latency_us = 1/' '252 500 17 1000 5
 solve_with 'kept jitters' '' '252 500 17 17 500 21 21' '' --keep jitter
 solve_with 'all are kept' '' '252 500 17 1000 500 21 1000' '' --keep jitter,buffer,latency,skew
 solve_with 'two options' '' '252 47 14 1000 47 15 1000' '' --keep buffer --keep skew
+solve_with 'copies a millisecond apart' '' '176 47 14 1014 47 15 1015' '' --apart 1000000
+solve_with 'copies a nanosecond apart' '' '176 47 14 15 47 15 16' '' --apart 1
+solve_with 'copies at one time' '' "$least" '' --apart 0
+solve_with 'copies apart, raised only' '' '252 500 17 1000 500 21 1000' '' \
+    --raise-only --apart 979000
+solve_with 'copies as far apart as can be' '' '176 47 14 100000 47 15 100000' '' --apart 99990760
 tell 'a solution is the solution of itself' "$(
     launch solve "$work/changed.toml"
     "$program" solve "$work/out" >"$work/again" || echo "status $?"
@@ -74,6 +80,11 @@ unsolved 'a kept jitter that is too small' 1 $'no A6 1 46720\n' '' \
     's/^jitter_us = .*/jitter_us = 46/' --keep jitter
 unsolved 'a kept skew that is too small' 1 $'no A7 1\n' '' \
     "$(skew_is 13)" --keep skew
+unsolved 'copies too far apart' 1 $'no apart 2 99990760\n' '' '' --apart 99990761
+unsolved 'a kept skew that leaves less' 1 $'no apart 2 990760\n' '' '' --keep skew --apart 990761
+unsolved 'a distance out of range' 2 '' $'words BadNumber\n' '' --apart 100000001
+text_case 'what is left, explained' 0 out 'asks for more than the tables' \
+    explain 'no apart 2 990760'
 unsolved 'a kept key that is absent' 1 '' $'config Missing top 0 key 2\n' '/^buffer/d' --keep buffer
 unsolved 'a kept key out of range' 1 '' $'config OutOfRange link 1 key 10\n' \
     's/^latency_us = .*/latency_us = 0/' --keep latency

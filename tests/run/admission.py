@@ -3,8 +3,8 @@
 
     tests/run/admission.py PROGRAM
 
-`check` and `check --all` must write of generated networks, of up to 400 links, and of the largest
-tables exactly what tests/lib/least.py computes apart from the program. `check` then judges the
+`check`, `check --all` and `check --margins` must write of generated networks, of up to 400 links,
+and of the largest tables exactly what tests/lib/least.py computes apart from the program. `check`
 least jitters, buffer, latencies and skews that are computed there: a network that has them is
 admitted, and each of them less by one makes its own line of admission false; where a key has no
 value that is enough, the line that is reported is the first false one. The same holds if keys are
@@ -32,10 +32,11 @@ from program import Cases, Program, answers, main_of, must  # noqa: E402
 
 
 def check_alike(program: Program, tables: dict) -> int:
-    """`check` writes what is computed here, with `--all` and without; its status."""
+    """`check` writes what is computed here, with its options and without; its status."""
     status = 0 if check_text(tables, True).endswith(b"\nok\n") else 1
     answers(checked(program, tables), status, check_text(tables, False), b"")
     answers(checked(program, tables, "--all"), status, check_text(tables, True), b"")
+    answers(checked(program, tables, "--margins"), status, check_text(tables, False, True), b"")
     return status
 
 

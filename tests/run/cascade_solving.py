@@ -9,8 +9,9 @@ find what tests/cascades/cascade_rows.py spells out. What `solve` writes must be
 `check`; be written again by another `solve`; and have the least values: each less by one makes its
 own line of admission false, and none is above what an admitted cascade had. So it is of rows that
 are spelled out, of the examples, of generated cascades of 1 to 5 switches whose four keys are
-absent, 0, any number in range or beyond it, of keys that are kept or only raised, of rings of
-cables whose ports wait for each other, of 24 switches, of the large cascade that bench/ measures.
+absent, 0, any number in range or beyond it, of keys that are kept or only raised, where one copy
+may be sent later than the other, of rings of cables whose ports wait for each other, of 24
+switches, of the large cascade that bench/ measures.
 Of files that are changed at random or break off at any byte the first fault is reported. One switch
 is answered as a file of its own, with its name. Where no PROGRAM is given only what is computed
 here is tried. Prints `ok NAME` or `FAILED NAME` for each case, then `N passed, M failed`; ends with
@@ -167,6 +168,35 @@ def none_above(program: Program, seed: int, count: int) -> None:
         same_text("what is raised", solved_text(cascade["switch"]), raised)
 
 
+def all_apart(program: Program, seed: int, count: int) -> None:
+    """So many cascades of which one copy may be sent later by any time: some leave it."""
+    chance = random.Random(seed)
+    having = 0
+    for _ in range(count):
+        cascade = made_cascade(chance, chance.randint(1, 5), chance.randint(0, 25), True)
+        apart = chance.randint(1, chance.choice([2000, 1_000_000, 99_000_000, 100_000_000]))
+        keep = chance.choice(KEEPS) if chance.random() < 0.3 else ()
+        raised = chance.random() < 0.5
+        having += check_solve(program, with_any(chance, cascade), keep, raised, apart) is not None
+    must(0 < having, "none of the cascades leaves what is asked for")
+
+
+def apart_rows(program: Program) -> None:
+    """Of the two switches: over the cable the copies have the time on two lines."""
+    for apart, wanted in (
+        (0, b"apart 1 11520\napart 2 5760\n"),
+        (1, b"apart 1 12520\napart 2 6760\n"),
+        (500_000, b"apart 1 511520\napart 2 505760\n"),
+    ):
+        written = check_solve(program, TWO_TEXT, (), False, apart) or b""
+        found = program.run("check", "--margins", "/dev/stdin", given=written).out
+        same_text(f"what {apart} leaves", wanted, found.partition(b"ok\n")[2])
+    kept = ["jitter", "buffer", "latency", "skew"]
+    must(check_solve(program, TWO_TEXT, kept, False, 969_520) is not None, "it is left")
+    for apart in (969_521, 976_521):
+        answers(solve(program, TWO_TEXT, kept, False, apart), 1, b"no apart fwd 2 969520\n", b"")
+
+
 def all_choices(program: Program, seed: int) -> None:
     """Each choice of keys that are kept or only raised, also where a kept one is absent or out of
     range."""
@@ -283,6 +313,7 @@ def program_cases(program: Program) -> list[tuple]:
         ("a ring of 28 rounds", check_ring, program, busy_ring(4, 12, 1)),
         ("a long ring", check_ring, program, busy_ring(24, 4, 8), "no B3 w0 5 115349"),
         ("faults", check_faults, program),
+        ("copies that aren't sent at once", apart_rows, program),
         ("beginnings of two switches", all_beginnings, program, TWO_TEXT),
     ]
     for seed in range(4):
@@ -290,6 +321,7 @@ def program_cases(program: Program) -> list[tuple]:
             (f"15 generated cascades, {seed}", all_solved, program, seed, 15),
             (f"25 admitted cascades, {seed}", none_above, program, seed, 25),
             (f"each choice of keys, {seed}", all_choices, program, seed),
+            (f"10 cascades of copies sent apart, {seed}", all_apart, program, seed, 10),
             (f"300 changed files, {seed}", changed_files, program, seed, 300),
             (f"12 networks of one switch, {seed}", ones_as_file, program, seed, 12),
         ]

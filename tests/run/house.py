@@ -5,7 +5,7 @@
 
 - Each name that README, PROMISES, ARCHITECTURE, DEVELOPING, LIBRARIES, DECISIONS and the tests'
   README set in code occurs in the sources.
-- Each piece of code in docs/LIBRARIES.md is a part of a file of afdx_surface_tests, white space
+- Each piece of code in docs/LIBRARIES.md is a part of a file of afdx_test_runs, white space
   aside.
 - The pages that bin/pages prints from the sources are as it prints them.
 - Each link of a page leads to a file or a heading that is there; the rows of a table have as many
@@ -15,6 +15,7 @@
 - Each must-fail edit, also a further one, finds the text that it changes, once.
 - Out of memory is made only where a growth was refused: in a `From`, or in the one function of a
   crate that hands it on (MEMORY).
+- Each source file is one that `rt ci` reads, of a crate of crates.txt, or it would refuse all.
 - Each source file says at its head what it is; lines of definitions, of contracts, of code and of
   scripts have at most 100 columns, those of proofs at most 140; imports and what is to be unfolded
   may be wider, what bin/pages prints into a script, and the tables of numbers in
@@ -44,7 +45,8 @@ import sizes  # noqa: E402
 CRATES = TOP / "crates"
 DOCUMENTS = ["README.md", "docs/PROMISES.md", "docs/ARCHITECTURE.md", "docs/DEVELOPING.md"]
 DOCUMENTS += ["docs/LIBRARIES.md", "docs/DECISIONS.md", "tests/README.md"]
-CALLS = CRATES / "afdx_surface_tests/src"
+FAULTS = CRATES / "afdx_input_lines/src"
+CALLS = CRATES / "afdx_test_runs/src/surface"
 COLUMNS = 100
 PROOF_COLUMNS = 140
 PRINTED = "# printed by bin/pages"  # from such a line on, down to one that begins so
@@ -53,18 +55,18 @@ NUMBERS = CRATES / "afdx_frame/src/tables.rt"
 MEMORY = {
     "crates/afdx_config/src/asked.rt": {"links_in"},
     "crates/afdx_config/src/read.rt": {"tree_of"},
-    "crates/afdx_console/src/telling.rt": {"memory"},
-    "crates/afdx_commands/src/refusing.rt": {"want_memory"},
+    "crates/afdx_command_line/src/console/telling.rt": {"memory"},
+    "crates/afdx_command_tables/src/refusing.rt": {"want_memory"},
     "crates/afdx_send/src/fault.rt": {""},  # the row of a table
-    "crates/afdx_sending/src/run.rt": {"refusal_of"},
+    "crates/afdx_command_tables/src/sending/run.rt": {"refusal_of"},
     "crates/afdx_send/src/sender_state.rt": {"accept"},
     "crates/afdx_text/src/line.rt": {"room_wanted"},
 }
 # how many are still larger than they may be
-LARGE = {"clauses": 1, "values": 24, "bodies": 3, "lines of proofs": 81}
+LARGE = {"clauses": 0, "values": 14, "bodies": 2, "lines of proofs": 0}
 # how many may still go
-SPARE = {"definitions that nothing reaches": 27, "exports that no other crate names": 3}
-OF_TWO_LISTS = ["list came n", "list left n"]  # n is the fault of that list
+SPARE = {"definitions that nothing reaches": 0, "exports that no other crate names": 3}
+OF_TWO = ["{1} {0}", "list {0} {1}"]  # the forms of one of two recordings, and of two lists
 SCRIPTS = ["tests/**/*.py", "tests/**/*.sh", "tests/**/*.c", "examples/*.py"]
 SCRIPTS += ["bench/*", "bin/*", "bin/printing/*.py", "bin/lib/*.sh"]
 SCRIPTS += ["tools/*", "tools/**/*.py", ".ci/*"]
@@ -176,22 +178,25 @@ def lists_apart() -> list[str]:
         if not re.search(rf"\b{word}\b", text_of(TOP / "docs/afdx.1")):
             faults.append(f"docs/afdx.1 doesn't have {word}")
     for file, before, forms in (
-        ("fault", "", [*lists.LIST_FAULTS, *OF_TWO_LISTS]),
+        ("fault", "", lists.LIST_FAULTS),
         ("list_fault", "list ", lists.LIST_FAULTS),
         ("recording_fault", "", lists.RECORDING_FAULTS),
     ):
-        source = text_of(CRATES / f"afdx_lists/src/{file}.rt")
+        source = text_of(FAULTS / f"{file}.rt")
         derived = re.findall(r'#\[error\("(.*?)"\)\]', source)
         texts = [before + text.replace("{0}", "n") for text in derived]
         told = [text for text in texts if re.match("list |recording ", text)]
         if set(told) != set(forms):
             faults.append(f"the texts of the faults of {file}.rt are {told}")
+    of_two = re.findall(r'#\[error\("(.*?)"\)\]', text_of(FAULTS / "one_of_two.rt"))
+    if of_two != OF_TWO:
+        faults.append(f"the texts of the faults of one_of_two.rt are {of_two}")
     return faults
 
 
 def is_laid_out(line: str) -> bool:
     """An import, or what the prover is to unfold: `rt fmt` has each in one line."""
-    return re.match(r"\s*((pub )?(ghost )?use |#\[tactic\()", line) is not None
+    return re.match(r"\s*((pub )?(ghost )?use |unfolding |#\[tactic\()", line) is not None
 
 
 def wide_lines(most: int, *patterns: str) -> list[str]:
@@ -221,7 +226,7 @@ def made_up_memory() -> list[str]:
     faults = []
     for path in sources("crates/*/src/**/*.rt"):
         name = str(path.relative_to(TOP))
-        if "_tests/" in name or "afdx_samples/" in name:
+        if "crates/afdx_test_" in name:
             continue
         function = ""
         for number, line in enumerate(text_of(path).splitlines(), 1):
@@ -229,6 +234,18 @@ def made_up_memory() -> list[str]:
             function = found.group(1) if found else function
             if makes_memory(line) and function not in MEMORY.get(name, set()) | {"from"}:
                 faults.append(f"{name}:{number}: {function} makes out of memory up")
+    return faults
+
+
+def unread() -> list[str]:
+    """Source files that are no part of a crate; `rt ci` proves nothing where there is one."""
+    crates = set(re.findall(r"^(\w+):", text_of(TOP / "crates.txt"), re.M))
+    folders = {".rt": {"src"}, ".antt": {"specs", "proofs"}}
+    faults = []
+    for path in sources("**/*.rt", "**/*.antt"):
+        parts = path.relative_to(TOP).parts
+        if parts[0] != "crates" or parts[1] not in crates or parts[2] not in folders[path.suffix]:
+            faults.append(f"{path.relative_to(TOP)} is no part of a crate")
     return faults
 
 
@@ -286,8 +303,9 @@ def main() -> int:
         "closed lists": lists_apart(),
         "must-fail edits": wrong_edits(),
         "out of memory": made_up_memory(),
+        "places of source files": unread(),
         "heads of source files": headless(),
-        "columns of definitions": wide_lines(COLUMNS, "crates/*/specs/*.antt"),
+        "columns of definitions": wide_lines(COLUMNS, "crates/*/specs/**/*.antt"),
         "columns of code": wide_lines(COLUMNS, "crates/*/src/**/*.rt"),
         "columns of proofs": wide_lines(PROOF_COLUMNS, "crates/*/proofs/**/*.antt"),
         "columns of scripts": wide_lines(COLUMNS, *SCRIPTS),

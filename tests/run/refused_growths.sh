@@ -2,7 +2,7 @@
 # Refuses requests for memory, and looks at what the program, or a test, makes of it.
 #
 #     tests/run/refused_growths.sh PROGRAM             the built program, as crates/afdx/out/afdx
-#     tests/run/refused_growths.sh --tests RUNNER..    built test runners, as afdx_part_tests_tests
+#     tests/run/refused_growths.sh --tests RUNNER..    built test runners, as afdx_test_parts_tests
 #
 # PROGRAM polices examples/one_link.list on standard input, checks examples/base.toml, the same with
 # `--margins`, and with late links by `--all`, solves it with late links, explains a line, replays a
@@ -236,9 +236,15 @@ if [[ $tests == no ]]; then
     refuse_program 'check --margins' "$1" check --margins "$top/examples/base.toml"
     refuse_program 'solve late links' "$1" solve --keep jitter "$work/hasty.toml"
     refuse_program 'solve in vain' "$1" solve --keep latency "$work/hasty.toml"
+    refuse_program 'solve copies too far apart' "$1" \
+        solve --apart 99990761 "$top/examples/base.toml"
     sed 's/^latency_us = .*/latency_us = 1/' "$top/examples/two_switches.toml" >"$work/cables.toml"
     refuse_program 'solve two switches' "$1" solve "$work/cables.toml"
     refuse_program 'solve two switches in vain' "$1" solve --keep jitter "$work/cables.toml"
+    refuse_program 'solve two switches, copies too far apart' "$1" \
+        solve --apart 99999999 "$work/cables.toml"
+    refuse_program 'check --margins of two switches' "$1" \
+        check --margins "$top/examples/two_switches.toml"
     input=$work/copies.list
     sed -n 's/^F 0 A/&/p; s/^F 0 A/F 0 B/p' "$top/examples/one_link.list" >"$input"
     refuse_program 'explain a line' "$1" explain config Missing link 1 key 7

@@ -8,7 +8,8 @@ lines on standard error; or, where no values are enough, the same line in place 
 writes must be admitted by `check`; be written again, byte for byte, by another `solve`; and have
 the least values: each less by one makes its own line of admission false. So it is of the examples,
 of the guide's network, of generated networks of up to 400 links whose four keys are absent, 0, any
-number in range or beyond it, of 4,096 links at once, of keys that are kept or only raised. Prints
+number in range or beyond it, of 4,096 links at once, of keys that are kept or only raised, and
+where one copy of a frame may be sent later than the other: then each link leaves so much. Prints
 `ok NAME` or `FAILED NAME` for each case, then `N passed, M failed`; ends with status 1 if a case
 failed. Needs Python 3.11.
 """
@@ -57,12 +58,13 @@ def difference(wanted: dict, found: dict) -> str:
 
 
 def check_solve(
-    program: Program, text: bytes, keep: Collection[str] = (), raise_only: bool = False
+    program: Program, text: bytes, keep: Collection[str] = (), raise_only: bool = False,
+    apart: int = 0,
 ) -> bytes | None:
     """`solve` answers what is computed here; the configuration that it writes, if it does, which
     `check` admits, and which is the same when it is solved again."""
-    wanted = solve_answer(text, keep, raise_only)
-    found = solve(program, text, keep, raise_only)
+    wanted = solve_answer(text, keep, raise_only, apart)
+    found = solve(program, text, keep, raise_only, apart)
     errors = "".join(f"{line}\n" for line in wanted.errors).encode()
     if wanted.tables is None:
         answers(found, wanted.status, f"{wanted.line}\n".encode() if wanted.line else b"", errors)
@@ -70,7 +72,7 @@ def check_solve(
     answers(found, 0, None, errors)
     tables = NO_TABLES | tomllib.loads(found.out.decode())
     must(tables == wanted.tables, difference(wanted.tables, tables))
-    check_solution(program, found.out, keep, raise_only)
+    check_solution(program, found.out, keep, raise_only, apart)
     return found.out
 
 
@@ -178,6 +180,39 @@ def check_choices(program: Program, seed: int) -> None:
             check_solve(program, text_of(NO_TABLES | least), keep, raise_only)
 
 
+def check_apart(program: Program) -> None:
+    """What the base network leaves the copies of a frame, what `solve` leaves without `--apart`:
+    the time on the wire; and with it."""
+    text = made.example("base.toml")
+    for options, wanted in (
+        (None, b"apart 1 988760\napart 2 984760\n"),
+        (0, b"apart 1 5760\napart 2 5760\n"),
+        (1, b"apart 1 6760\napart 2 6760\n"),
+        (1_000_000, b"apart 1 1005760\napart 2 1005760\n"),
+        (99_985_000, b"apart 1 99990760\napart 2 99990760\n"),
+    ):
+        solved = text if options is None else check_solve(program, text, (), False, options) or b""
+        found = program.run("check", "--margins", "/dev/stdin", given=solved).out
+        same_text(f"what {options} leaves", wanted, found.partition(b"ok\n")[2])
+    must(check_solve(program, text, (), False, 99_990_761) is None, "no skew leaves so much")
+    must(check_solve(program, text, ["skew"], False, 990_760) is not None, "the skew leaves it")
+    for apart, line in ((990_761, b"no apart 2 990760\n"), (991_761, b"no apart 1 991760\n")):
+        answers(solve(program, text, ["skew"], False, apart), 1, line, b"")
+
+
+def check_networks_apart(program: Program, seed: int, count: int) -> None:
+    """So many networks, of which one copy may be sent later by any time: some leave it."""
+    chance = random.Random(seed)
+    having = 0
+    for _ in range(count):
+        tables = with_any_keys(chance, network(chance, chance.randint(1, 40), True))
+        most = chance.choice([2000, 1_000_000, 99_000_000, 100_000_000])
+        apart, raise_only = chance.randint(1, most), chance.random() < 0.5
+        keep = chance.choice(KEEPS) if chance.random() < 0.3 else ()
+        having += check_solve(program, spelled(tables), keep, raise_only, apart) is not None
+    must(0 < having < count, f"{having} of {count} networks leave what is asked for")
+
+
 def check_largest(program: Program) -> None:
     """4,096 links at once, each to 23 systems, without the four keys."""
     must(check_least(program, with_keys(made.largest_tables(), None)), "it can't be admitted")
@@ -249,6 +284,7 @@ def try_all(cases: Cases, program: Program) -> None:
     cases.try_case("faults of a configuration", check_faults, program)
     cases.try_case("kept values that are too small", check_kept, program)
     cases.try_case("the guide's network", check_guide, program)
+    cases.try_case("copies that aren't sent at once", check_apart, program)
     for name in ("base", "network", "refused", "gigabit"):
         cases.try_case(f"{name}.toml", check_example, program, f"{name}.toml")
     for name, tables, line in unsolvable():
@@ -260,6 +296,10 @@ def try_all(cases: Cases, program: Program) -> None:
     at_once += [
         (f"keys that are kept, keys that are raised, {seed}", check_choices, program.apart(), seed)
         for seed in range(4)
+    ]
+    at_once += [
+        (f"20 networks, copies sent apart, {seed}", check_networks_apart, program.apart(), seed, 20)
+        for seed in range(3)
     ]
     cases.try_at_once(at_once)
 

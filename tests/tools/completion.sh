@@ -215,8 +215,9 @@ done
 # ---- versions and man pages ----------------------------------------------------------------
 
 version_tests() {
-    local wanted tool
-    wanted=$(sed -n 's/^const VERSION: &str = "\([^ ]*\) .*/\1/p' crates/afdx_words/src/words.rt)
+    local words wanted tool
+    words=crates/afdx_command_words/src/words.rt
+    wanted=$(sed -n 's/^const VERSION: &str = "\([^ ]*\) .*/\1/p' "$words")
     for tool in afdx-capture afdx-report afdx-campaign afdx-icd afdx-fill afdx-traffic afdx-taps; do
         launch "tools/$tool" --version
         tell "$tool --version" "$(

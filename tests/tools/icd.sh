@@ -54,6 +54,27 @@ sound_tests() {
         grep -qx '  # maintenance report' "$one/made.toml" || echo 'no name of a message'
         grep -qx 'buffer = 1391' "$one/made.toml" || echo 'the buffer is another'
     )"
+    icd "$one" --apart 500001
+    tell 'skews for copies that are not sent at one time' "$(
+        is_ok "$one"
+        made_says "$one" 20 'latency_us = 120, skew_us = 621, subs = 1 }'
+        "$program" check --margins "$one/made.toml" | awk '
+            $1 == "apart" && $3 < 500001 { print "link", $2, "leaves", $3 }'
+    )"
+    icd "$one" --apart 500001 --reserve 5
+    tell 'the same above a reserve' "$(
+        is_ok "$one"
+        "$program" check --margins "$one/made.toml" | awk '
+            $1 == "apart" && $3 < 500001 { print "link", $2, "leaves", $3 }'
+    )"
+    rm "$one/made.toml"
+    icd "$one" --apart 99999999
+    tell 'copies that no skew allows' "$(
+        is_status 1
+        text_is out ''
+        says err "its copies can't be sent so far apart: that takes a skew of over 100000 us"
+        if [[ -e $one/made.toml ]]; then echo 'there is a configuration'; fi
+    )"
     tables "$two" '' ''
     sed -i 's/,/;/g; s/$/\r/; 1s/^/\xef\xbb\xbf/; 2s/fcc disp/" fcc  disp "/' "$two"/*.csv
     sed -i '1s/message/"Message"/; s/;20;64;/;"20,5";064;/; s/;high;/; High ;/' "$two/messages.csv"

@@ -86,8 +86,9 @@ dpkg-architecture_of() { # the folder of this machine's libraries
 }
 
 package_tests() {
-    local version deb
-    version=$(sed -n 's/^const VERSION: &str = "\([^ ]*\) .*/\1/p' crates/afdx_words/src/words.rt)
+    local words version deb
+    words=crates/afdx_command_words/src/words.rt
+    version=$(sed -n 's/^const VERSION: &str = "\([^ ]*\) .*/\1/p' "$words")
     launch bin/package "$work/packages"
     deb=$(tail -n 1 "$work/out")
     tell 'a package is made' "$(

@@ -193,15 +193,22 @@ class Reserve(unittest.TestCase):
         old = {"buffer": 500, "link": [{"vl": 5, "latency_us": 40, "skew_us": 90}]}
         wanted = {"vl": 5, "latency_us": None, "skew_us": None}
         solved = {"vl": 5, "latency_us": 17, "skew_us": 17}
-        kept = room_of(10, old).link(wanted, solved, 40_000)
+        kept = room_of(10, 0, old).link(wanted, solved, 40_000)
         self.assertEqual((kept["latency_us"], kept["skew_us"]), (40, 90))
-        grown = room_of(10, old).link(wanted, solved, 40_001)
+        grown = room_of(10, 0, old).link(wanted, solved, 40_001)
         self.assertEqual((grown["latency_us"], grown["skew_us"]), (45, 90))  # 44.0011 us
 
     def test_a_skew_is_no_less_than_the_latency(self) -> None:
         wanted = {"vl": 5, "latency_us": 100, "skew_us": 50}
         made = Room(0).link(wanted, {"vl": 5, "latency_us": 100, "skew_us": 50}, 17_000)
         self.assertEqual((made["latency_us"], made["skew_us"]), (100, 100))
+
+    def test_a_skew_allows_for_copies_that_are_not_sent_at_once(self) -> None:
+        wanted = {"vl": 5, "latency_us": 100, "skew_us": 50}
+        made = Room(0, 1_000_001).link(wanted, {"vl": 5, "latency_us": 100, "skew_us": 50}, 17_000)
+        self.assertEqual((made["latency_us"], made["skew_us"]), (100, 1101))
+        self.assertEqual(Room(0).solve_options(), ["--raise-only"])
+        self.assertEqual(Room(0, 7).solve_options(), ["--raise-only", "--apart", "7"])
 
 
 class Submissions(unittest.TestCase):

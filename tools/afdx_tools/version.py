@@ -8,7 +8,7 @@ import re
 # package is imported here: setuptools reads NUMBER before there is a package.
 TOOLS = os.path.dirname(os.path.dirname(os.path.realpath(__file__)))
 INSTALLED = os.path.join(TOOLS, "version")
-SOURCE = os.path.join(TOOLS, "..", "crates", "afdx_words", "src", "words.rt")
+SOURCE = os.path.join(TOOLS, "..", "crates", "afdx_command_words", "src", "words.rt")
 
 
 def number() -> str:

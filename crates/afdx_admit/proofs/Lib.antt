@@ -1,3 +1,4 @@
+pub mod ApartLemmas
 pub mod CascadeExactLemmas
 pub mod CascadeFalseLemmas
 pub mod CascadeKnownLemmas

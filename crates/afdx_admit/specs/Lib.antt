@@ -9,3 +9,4 @@ pub mod Bounds
 pub mod Cascade
 pub mod AtSwitch
 pub mod CascadeLaws
+pub mod Apart

@@ -1,11 +1,12 @@
 //! Admission: whether every frame of a network keeps its link's latency.
 //!
-//! Its tests are in `afdx_part_tests`.
+//! Its tests are in `afdx_test_parts`.
 #![tactic(auto)]
 
 mod admitted;
 mod all;
 mod all_cascade;
+mod apart;
 mod bounds;
 mod cascade;
 mod cascade_fault;
@@ -21,6 +22,7 @@ mod way;
 pub use admitted::{Admitted, admit};
 pub use all::all_faults;
 pub use all_cascade::all_cascade_faults;
+pub use apart::{cascade_apart, link_apart, row_apart_at};
 pub use bounds::{PortBounds, bounds_of, bounds_to, buffer_need, high_bound, low_bound};
 pub use cascade::{AdmittedSwitches, admit_all};
 pub use cascade_fault::{CASCADE_ADMISSION, CascadeFault, CascadeText, SwitchFault};

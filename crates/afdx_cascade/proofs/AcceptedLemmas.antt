@@ -16,7 +16,7 @@ use Rattle.afdx_police.specs.Verdicts.{reason_after, verdict_in}
 use Rattle.afdx_police.specs.declared.shape.Reason.{Reason}
 use Rattle.afdx_police.proofs.ShapeLemmas.{faultless-is-sound}
 use Rattle.afdx_port.specs.Schedule.{Entry, Turn, AreTurns}
-use Rattle.afdx_bounds.specs.Outputs.{Row, entry_of, offers_at}
+use Rattle.afdx_law_bounds.specs.Outputs.{Row, entry_of, offers_at}
 use Rattle.afdx_switch.specs.Admitted.{slots}
 use Rattle.afdx_switch.specs.HeldFrames.{HeldFrame}
 use Rattle.afdx_switch.specs.Switching.{taken_at}
@@ -25,7 +25,7 @@ use Rattle.afdx_switch.specs.Verdicts.{reason_on, reason_of, is_lost_at}
 use Rattle.afdx_switch.proofs.ArrivalLemmas.{same-side, unknown-fault}
 use Rattle.afdx_switch.proofs.LawLemmas.{entries-grow}
 use Rattle.afdx_network.proofs.EventLemmas.{sides}
-use Rattle.afdx_promises.specs.Sent.{arrivals_at}
+use Rattle.afdx_law_promises.specs.Sent.{arrivals_at}
 use Rattle.afdx_cascade.specs.Cables.{brought, brought_by}
 use Rattle.afdx_cascade.specs.SwitchEvents.{FrameTest}
 use Rattle.afdx_cascade.specs.SwitchEvents.{accepted_by, count_if, in_clock, passes}

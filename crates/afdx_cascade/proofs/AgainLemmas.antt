@@ -11,7 +11,7 @@ use Rattle.afdx_port.proofs.TurnLemmas.{nat_lt-true, nat_lt-false}
 use Rattle.afdx_switch.specs.Admitted.{slots}
 use Rattle.afdx_switch.specs.HeldFrames.{HeldFrame}
 use Rattle.afdx_switch.specs.Tables.{rule_of, byte_ns_at, entries_at}
-use Rattle.afdx_promises.specs.Sent.{arrivals_at}
+use Rattle.afdx_law_promises.specs.Sent.{arrivals_at}
 use Rattle.afdx_cascade.specs.Cables.{Hop, GoesOn, brought, brought_by}
 use Rattle.afdx_cascade.specs.SwitchEvents.{Plan, IsPlan, SwitchEvent, KeepsRules, came_to, in_clock, turns_of, end_at}
 use Rattle.afdx_cascade.specs.Again.{IsNextThere, BroughtIsAccepted}

@@ -13,7 +13,7 @@ use Rattle.afdx_police.specs.Arrival.{Arrival, is_side, names, own}
 use Rattle.afdx_police.specs.Rule.{Rule}
 use Rattle.afdx_police.specs.Verdicts.{accepted_own, drop_reason, reason_after}
 use Rattle.afdx_police.specs.declared.shape.Reason.{Reason}
-use Rattle.afdx_bounds.proofs.VerdictLemmas.{one-name}
+use Rattle.afdx_law_bounds.proofs.VerdictLemmas.{one-name}
 use Rattle.afdx_switch.specs.Tables.{rule_of, goes_to}
 use Rattle.afdx_switch.specs.Verdicts.{reason_of}
 use Rattle.afdx_cascade.specs.Admitted.{IsRow, IsAdmittedCascade, hop_at, hops_at}

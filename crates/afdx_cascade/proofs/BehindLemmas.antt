@@ -5,8 +5,8 @@ use Rattle.std.specs.Prelude.{if◌then◌else◌}
 use Rattle.std.proofs.lemmas.Bool.{cases_eq}
 use Rattle.afdx_frame.specs.declared.link.Side.{Side}
 use Rattle.afdx_port.specs.Schedule.{Turn, IsNext, lasting}
-use Rattle.afdx_bounds.proofs.AdmittedLemmas.{product-positive}
-use Rattle.afdx_bounds.proofs.TableLemmas.{byte-time}
+use Rattle.afdx_law_bounds.proofs.AdmittedLemmas.{product-positive}
+use Rattle.afdx_law_bounds.proofs.TableLemmas.{byte-time}
 use Rattle.afdx_switch.specs.HeldFrames.{HeldFrame}
 use Rattle.afdx_switch.specs.Switching.{taken_at}
 use Rattle.afdx_switch.specs.Tables.{byte_ns_at, entries_at}

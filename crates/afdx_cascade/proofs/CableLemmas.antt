@@ -8,9 +8,9 @@ use Rattle.std.specs.List.{AllByRecursion}
 use Rattle.afdx_frame.specs.declared.link.Side.{Side}
 use Rattle.afdx_config.specs.Rows.{LinkRow}
 use Rattle.afdx_police.specs.Arrival.{Arrival, is_side, names, own}
-use Rattle.afdx_bounds.specs.Outputs.{AreTimed}
-use Rattle.afdx_bounds.proofs.AdmittedLemmas.{product-positive}
-use Rattle.afdx_bounds.proofs.TableLemmas.{byte-time}
+use Rattle.afdx_law_bounds.specs.Outputs.{AreTimed}
+use Rattle.afdx_law_bounds.proofs.AdmittedLemmas.{product-positive}
+use Rattle.afdx_law_bounds.proofs.TableLemmas.{byte-time}
 use Rattle.afdx_port.specs.Schedule.{Entry, Turn, AreTurns, end_of, lasting}
 use Rattle.afdx_port.proofs.TurnLemmas.{schedule_begins, ends_after}
 use Rattle.afdx_switch.specs.Admitted.{Passing, passing, passing_in, frames_among, slots, AreInTime}
@@ -21,8 +21,8 @@ use Rattle.afdx_switch.specs.Regular.{at_port}
 use Rattle.afdx_switch.specs.Tables.{rule_of, goes_to, byte_ns_at, entries_at}
 use Rattle.afdx_switch.proofs.AdmittedLemmas.{turns-in-time}
 use Rattle.afdx_switch.proofs.HopLemmas.{copies-accepted, none-dropped}
-use Rattle.afdx_promises.specs.Sent.{arrivals_at}
-use Rattle.afdx_promises.proofs.PortLemmas.{its-turns, in-time, entries_back, left-back}
+use Rattle.afdx_law_promises.specs.Sent.{arrivals_at}
+use Rattle.afdx_law_promises.proofs.PortLemmas.{its-turns, in-time, entries_back, left-back}
 use Rattle.afdx_cascade.specs.Cables.{Hop, IsHop, Gives, GoesOn, IsNextRow, rule_at}
 use Rattle.afdx_cascade.specs.Cables.{accepted_at, latency_at, all_turns, brought, brought_by, named}
 use Rattle.afdx_cascade.specs.Cables.{CablesBringInOrder, FirstFramesLeave, AllFramesLeave, AcceptedIsAcceptedAgain}

@@ -13,7 +13,7 @@ use Rattle.afdx_switch.specs.HeldFrames.{HeldFrame}
 use Rattle.afdx_network.specs.Events.{Left}
 use Rattle.afdx_network.specs.Order.{is_below}
 use Rattle.afdx_network.proofs.OrderLemmas.{below_self}
-use Rattle.afdx_promises.specs.Sent.{arrivals_at}
+use Rattle.afdx_law_promises.specs.Sent.{arrivals_at}
 use Rattle.afdx_cascade.specs.Cables.{brought, brought_by}
 use Rattle.afdx_cascade.specs.SwitchEvents.{End}
 use Rattle.afdx_cascade.specs.SwitchEvents.{came_to, in_clock, turns_of, end_at}

@@ -17,7 +17,7 @@ use Rattle.afdx_police.specs.Arrival.{Arrival, is_side, names, own}
 use Rattle.afdx_police.specs.Rule.{Rule}
 use Rattle.afdx_police.specs.Verdicts.{accepted_arrivals, reason_after}
 use Rattle.afdx_port.specs.Schedule.{Turn, AreTurns}
-use Rattle.afdx_bounds.proofs.VerdictLemmas.{one-name}
+use Rattle.afdx_law_bounds.proofs.VerdictLemmas.{one-name}
 use Rattle.afdx_switch.specs.Admitted.{IsAdmittedRun, accepted_on, slots}
 use Rattle.afdx_switch.specs.HeldFrames.{HeldFrame}
 use Rattle.afdx_switch.specs.Hops.{IsCopy, AreCopies, AreFirstCopies}

@@ -36,11 +36,11 @@ use Rattle.afdx_switch.specs.Hops.{AreCopies}
 use Rattle.afdx_switch.specs.Regular.{at_port}
 use Rattle.afdx_switch.specs.Tables.{port_of, rule_of}
 use Rattle.afdx_switch.proofs.RegularLemmas.{accepted-at}
-use Rattle.afdx_promises.specs.Examples.{sender, receiver, one, first_on}
-use Rattle.afdx_promises.specs.Sent.{arrivals_at}
-use Rattle.afdx_promises.proofs.ExampleLemmas as base
-use Rattle.afdx_promises.proofs.PortLemmas.{its-turns}
-use Rattle.afdx_promises.proofs.PromiseLemmas.{goes-there}
+use Rattle.afdx_law_promises.specs.Examples.{sender, receiver, one, first_on}
+use Rattle.afdx_law_promises.specs.Sent.{arrivals_at}
+use Rattle.afdx_law_promises.proofs.ExampleLemmas as base
+use Rattle.afdx_law_promises.proofs.PortLemmas.{its-turns}
+use Rattle.afdx_law_promises.proofs.PromiseLemmas.{goes-there}
 use Rattle.afdx_switch.proofs.StreamLemmas.{IsSendable, sendable-sound}
 use Rattle.afdx_cascade.specs.Cables.{GoesOn, Gives, rule_at, accepted_at, all_turns, brought, brought_by}
 use Rattle.afdx_cascade.specs.Examples.{neighbour, switch_with, link_before, tables_before, link_after, listening}

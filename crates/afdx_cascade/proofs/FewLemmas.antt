@@ -16,7 +16,7 @@ use Rattle.afdx_switch.specs.Tables.{byte_ns_at, entries_at}
 use Rattle.afdx_switch.proofs.ArrivalLemmas.{same-side}
 use Rattle.afdx_network.specs.Events.{Event, Came, Left, Admission, Departure, arrivals_in, turns_on}
 use Rattle.afdx_network.proofs.EventLemmas.{ports-same, taken-same, taken-other}
-use Rattle.afdx_promises.specs.Sent.{arrivals_at}
+use Rattle.afdx_law_promises.specs.Sent.{arrivals_at}
 use Rattle.afdx_cascade.specs.Cables.{brought}
 use Rattle.afdx_cascade.specs.SwitchEvents.{Plan, IsPlan, End, SwitchEvent, FrameTest, AlwaysKeepsRules, HasPort, IsInPlan}
 use Rattle.afdx_cascade.specs.SwitchEvents.{at_switch, came_to, count_if, in_clock, passes, listed, turns_of, with_listed}

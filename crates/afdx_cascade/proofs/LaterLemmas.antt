@@ -11,7 +11,7 @@ use Rattle.afdx_port.specs.Due.{given_at, order_of}
 use Rattle.afdx_port.specs.History.{due_at}
 use Rattle.afdx_port.specs.Schedule.{Turn, IsNext}
 use Rattle.afdx_port.proofs.TurnLemmas.{nat_lt-true, nat_lt-false}
-use Rattle.afdx_bounds.proofs.TableLemmas.{byte-time}
+use Rattle.afdx_law_bounds.proofs.TableLemmas.{byte-time}
 use Rattle.afdx_switch.specs.HeldFrames.{HeldFrame}
 use Rattle.afdx_switch.specs.Switching.{PortTurn, IsNextOf, taken_at}
 use Rattle.afdx_switch.specs.Tables.{byte_ns_at, entries_at}

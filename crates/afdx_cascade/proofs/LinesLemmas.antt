@@ -8,8 +8,8 @@ use Rattle.afdx_frame.specs.declared.link.Side.{Side}
 use Rattle.afdx_police.specs.Arrival.{Arrival, is_side}
 use Rattle.afdx_switch.specs.Admitted.{slots}
 use Rattle.afdx_network.specs.Events.{Event, Came, Left, Admission, Departure, arrivals_in, admission_after}
-use Rattle.afdx_promises.specs.Sent.{arrivals_at}
-use Rattle.afdx_promises.proofs.ListLemmas.{reverse-cons}
+use Rattle.afdx_law_promises.specs.Sent.{arrivals_at}
+use Rattle.afdx_law_promises.proofs.ListLemmas.{reverse-cons}
 use Rattle.afdx_cascade.specs.Parts.{PortsGetTheirLines, frames_of, frames_to}
 use Rattle.afdx_cascade.specs.Runs.{Line, IsDue, IsNextEvent, IsNextLine, Runs}
 use Rattle.afdx_cascade.specs.SwitchEvents.{Plan, SwitchEvent, at_switch, came_to, in_clock, turns_of}

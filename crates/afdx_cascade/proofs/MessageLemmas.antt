@@ -27,13 +27,13 @@ use Rattle.afdx_switch.proofs.StreamLemmas.{accepted-stream}
 use Rattle.afdx_network.specs.Events.{Event, turns_on}
 use Rattle.afdx_network.specs.Order.{events_of}
 use Rattle.afdx_network.proofs.OrderedLemmas.{are-events}
-use Rattle.afdx_promises.specs.Lines.{told_by}
-use Rattle.afdx_promises.proofs.BroughtLemmas.{AreLater}
-use Rattle.afdx_promises.proofs.EventLemmas.{taken-at-port}
-use Rattle.afdx_promises.proofs.OnceLemmas.{IsStreamTo}
-use Rattle.afdx_promises.proofs.PromiseLemmas.{goes-there}
-use Rattle.afdx_promises.proofs.SentLemmas.{take-all}
-use Rattle.afdx_promises.proofs.ToldLemmas.{told-by-slots}
+use Rattle.afdx_law_promises.specs.Lines.{told_by}
+use Rattle.afdx_law_promises.proofs.BroughtLemmas.{AreLater}
+use Rattle.afdx_law_promises.proofs.EventLemmas.{taken-at-port}
+use Rattle.afdx_law_promises.proofs.OnceLemmas.{IsStreamTo}
+use Rattle.afdx_law_promises.proofs.PromiseLemmas.{goes-there}
+use Rattle.afdx_law_promises.proofs.SentLemmas.{take-all}
+use Rattle.afdx_law_promises.proofs.ToldLemmas.{told-by-slots}
 use Rattle.afdx_cascade.specs.Admitted.{AreRowsBefore, IsAdmittedCascade, IsRow, hops_at}
 use Rattle.afdx_cascade.specs.Cables.{brought, brought_by, named}
 use Rattle.afdx_cascade.specs.EndToEnd.{EachLeaves, FirstOfThemLeave, IsWayTo, accepted_of, begins_at}

@@ -20,7 +20,7 @@ use Rattle.afdx_network.specs.Events.{Event, Came, Left, Admission, Departure, a
 use Rattle.afdx_network.specs.Network as network
 use Rattle.afdx_network.specs.declared.network.Network.{Network}
 use Rattle.afdx_network.proofs.EventLemmas.{ports-same, taken-same, taken-other}
-use Rattle.afdx_promises.specs.Sent.{arrivals_at}
+use Rattle.afdx_law_promises.specs.Sent.{arrivals_at}
 use Rattle.afdx_cascade.specs.Cables.{brought, brought_by}
 use Rattle.afdx_cascade.specs.SwitchEvents.{Plan, SwitchEvent, KeepsRules}
 use Rattle.afdx_cascade.specs.SwitchEvents.{at_switch, came_to, in_clock, turns_of}

@@ -13,7 +13,7 @@ use Rattle.afdx_switch.specs.Switching.{taken_at}
 use Rattle.afdx_switch.specs.Tables.{byte_ns_at, entries_at}
 use Rattle.afdx_switch.specs.Verdicts.{reason_of}
 use Rattle.afdx_network.specs.Events.{Event, Came, Left, Admission, arrivals_in, turns_on}
-use Rattle.afdx_promises.specs.Sent.{arrivals_at}
+use Rattle.afdx_law_promises.specs.Sent.{arrivals_at}
 use Rattle.afdx_cascade.specs.Cables.{brought_by}
 use Rattle.afdx_cascade.specs.SwitchEvents.{Plan, IsPlan, End, SwitchEvent, FrameTest, AlwaysKeepsRules}
 use Rattle.afdx_cascade.specs.SwitchEvents.{accepted_by, at_switch, came_to, count_if, in_clock, passes, listed, turns_of, with_listed}

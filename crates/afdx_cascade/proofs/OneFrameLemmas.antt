@@ -10,7 +10,7 @@ use Rattle.afdx_police.specs.Arrival.{Arrival}
 use Rattle.afdx_port.specs.Schedule.{Entry, Turn, IsNext, AreTurns, has_turn, is_past}
 use Rattle.afdx_port.specs.ScheduleOf.{schedule_of, turn_at}
 use Rattle.afdx_port.proofs.TurnLemmas.{same_next, nat_lt-false}
-use Rattle.afdx_bounds.specs.Outputs.{Row, entry_of}
+use Rattle.afdx_law_bounds.specs.Outputs.{Row, entry_of}
 use Rattle.afdx_switch.specs.Admitted.{IsAdmittedRun}
 use Rattle.afdx_switch.specs.HeldFrames.{HeldFrame}
 use Rattle.afdx_switch.specs.Tables.{row_named, carried, byte_ns_at, entries_at}
@@ -19,7 +19,7 @@ use Rattle.afdx_switch.proofs.AdmittedLemmas.{accepted-kept}
 use Rattle.afdx_switch.proofs.LawLemmas.{entries-grow}
 use Rattle.afdx_network.specs.Events.{turns_at}
 use Rattle.afdx_network.proofs.EventLemmas.{sides}
-use Rattle.afdx_promises.proofs.PortLemmas.{its-turns}
+use Rattle.afdx_law_promises.proofs.PortLemmas.{its-turns}
 use Rattle.afdx_cascade.proofs.AcceptedLemmas.{no-entries}
 
 -- a frame that has its turn as soon as it comes isn't too old

@@ -26,8 +26,8 @@ use Rattle.afdx_network.specs.Order.{AreEvents, side_number}
 use Rattle.afdx_network.specs.declared.network.Network.{Network}
 use Rattle.afdx_network.proofs.FirstLemmas.{are-all, are-first}
 use Rattle.afdx_network.proofs.OrderedLemmas.{begins, one-order}
-use Rattle.afdx_promises.specs.Sent.{arrivals_at}
-use Rattle.afdx_promises.proofs.ListLemmas.{reverse-cons}
+use Rattle.afdx_law_promises.specs.Sent.{arrivals_at}
+use Rattle.afdx_law_promises.proofs.ListLemmas.{reverse-cons}
 use Rattle.afdx_cascade.specs.Cables.{brought, brought_by}
 use Rattle.afdx_cascade.specs.Cascade.{StandsFor}
 use Rattle.afdx_cascade.specs.Parts.{SwitchBeginsAlone, SwitchRunsAlone, CablesBringAll, ListedIsListed, EventsAreOfList}

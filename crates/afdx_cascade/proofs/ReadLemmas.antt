@@ -21,7 +21,7 @@ use Rattle.afdx_switch.specs.Admitted.{slots}
 use Rattle.afdx_switch.specs.HeldFrames.{HeldFrame}
 use Rattle.afdx_switch.specs.Tables.{rule_of, goes_to, byte_ns_at, entries_at}
 use Rattle.afdx_switch.proofs.AdmittedLemmas.{turn-in-time}
-use Rattle.afdx_promises.specs.Sent.{arrivals_at}
+use Rattle.afdx_law_promises.specs.Sent.{arrivals_at}
 use Rattle.afdx_cascade.specs.Admitted.{IsRow, IsAdmittedCascade, CablesAreRead, hop_at}
 use Rattle.afdx_cascade.specs.Cables.{brought, brought_by}
 use Rattle.afdx_cascade.specs.Plans.{plan_of, tables_of}

@@ -4,8 +4,8 @@ use Rattle.afdx_frame.specs.Reading.{BuiltIsComputed}
 use Rattle.afdx_config.specs.Switches.{NamedRows}
 use Rattle.afdx_admit.specs.Cascade.{RowAt}
 use Rattle.afdx_send.specs.Sender.{SenderHistory}
-use Rattle.afdx_promises.specs.Sent.{stream_of}
-use Rattle.afdx_promises.proofs.SentLemmas.{one-side, sent-is-fed, sent-so-far}
+use Rattle.afdx_law_promises.specs.Sent.{stream_of}
+use Rattle.afdx_law_promises.proofs.SentLemmas.{one-side, sent-is-fed, sent-so-far}
 use Rattle.afdx_cascade.specs.EndToEnd.{begins_at}
 use Rattle.afdx_cascade.specs.Plans.{tables_of}
 use Rattle.afdx_cascade.specs.Receivers.{IsStreamFrom, heard_by}

@@ -17,7 +17,7 @@ use Rattle.afdx_switch.proofs.ArrivalLemmas.{same-side}
 use Rattle.afdx_network.specs.Events.{calls_on}
 use Rattle.afdx_network.specs.Order.{is_below, side_number}
 use Rattle.afdx_network.proofs.OrderLemmas.{below_first, below_next, below_self}
-use Rattle.afdx_promises.specs.Sent.{arrivals_at}
+use Rattle.afdx_law_promises.specs.Sent.{arrivals_at}
 use Rattle.afdx_cascade.specs.Cables.{brought}
 use Rattle.afdx_cascade.specs.SwitchEvents.{Plan, IsPlan, End, SwitchEvent, at_switch, came_to}
 use Rattle.afdx_cascade.specs.Runs.{IsTurnDue, IsFrameDue, IsDue, arriving, turn_phase}

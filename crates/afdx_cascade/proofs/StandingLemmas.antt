@@ -9,7 +9,7 @@ use Rattle.afdx_police.specs.Arrival.{is_side}
 use Rattle.afdx_port.proofs.TurnLemmas.{eqb-same}
 use Rattle.afdx_switch.proofs.ArrivalLemmas.{same-side}
 use Rattle.afdx_network.specs.Events.{Came, Admission, admission_after}
-use Rattle.afdx_promises.specs.Sent.{arrivals_at}
+use Rattle.afdx_law_promises.specs.Sent.{arrivals_at}
 use Rattle.afdx_cascade.specs.Cables.{brought, brought_by}
 use Rattle.afdx_cascade.specs.SwitchEvents.{End}
 use Rattle.afdx_cascade.specs.SwitchEvents.{came_to, in_clock, end_at}

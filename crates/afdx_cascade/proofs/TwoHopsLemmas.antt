@@ -14,14 +14,14 @@ use Rattle.afdx_police.specs.Verdicts.{accepted_arrivals, reason_after}
 use Rattle.afdx_police.specs.declared.shape.Reason.{Reason}
 use Rattle.afdx_port.proofs.TurnLemmas.{eqb-other}
 use Rattle.afdx_port.specs.Schedule.{Turn}
-use Rattle.afdx_bounds.specs.Outputs.{Row, AreTimed}
+use Rattle.afdx_law_bounds.specs.Outputs.{Row, AreTimed}
 use Rattle.afdx_switch.specs.Admitted.{IsAdmittedRun}
 use Rattle.afdx_switch.specs.HeldFrames.{HeldFrame}
 use Rattle.afdx_switch.specs.Tables.{rows_of, row_of, row_named, rule_of, goes_to, carried}
 use Rattle.afdx_switch.specs.Tables.{byte_ns_at}
 use Rattle.afdx_switch.specs.Verdicts.{reason_of}
-use Rattle.afdx_promises.specs.Examples.{one, first_on}
-use Rattle.afdx_promises.proofs.ExampleLemmas as base
+use Rattle.afdx_law_promises.specs.Examples.{one, first_on}
+use Rattle.afdx_law_promises.proofs.ExampleLemmas as base
 use Rattle.afdx_cascade.specs.Examples.{link_before, tables_before, link_after, tables_after}
 use Rattle.afdx_cascade.specs.SwitchEvents.{IsPlan, End, end_at}
 use Rattle.afdx_cascade.specs.TwoHops.{tables_of, joined_to, two_switches, line}

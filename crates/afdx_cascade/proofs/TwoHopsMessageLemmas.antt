@@ -14,10 +14,10 @@ use Rattle.afdx_config.specs.Reading.{has_port, link_of, system_named, system_at
 use Rattle.afdx_config.specs.SentList.{Message, Sent, sent_at, CanBeSent}
 use Rattle.afdx_config.specs.Switches.{far_end, neighbour_named, switch_named}
 use Rattle.afdx_port.proofs.TurnLemmas.{eqb-other}
-use Rattle.afdx_bounds.specs.Outputs.{AreTimed}
+use Rattle.afdx_law_bounds.specs.Outputs.{AreTimed}
 use Rattle.afdx_switch.specs.Streams.{AreFirstOf, IsStreamOf}
-use Rattle.afdx_promises.specs.Examples.{sender, receiver, heard, first_on}
-use Rattle.afdx_promises.proofs.ExampleLemmas as base
+use Rattle.afdx_law_promises.specs.Examples.{sender, receiver, heard, first_on}
+use Rattle.afdx_law_promises.proofs.ExampleLemmas as base
 use Rattle.afdx_cascade.specs.Cables.{brought}
 use Rattle.afdx_cascade.specs.EndToEnd.{AreAllEvents}
 use Rattle.afdx_cascade.specs.Examples.{link_before, switches, tables_before}

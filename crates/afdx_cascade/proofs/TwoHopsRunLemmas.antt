@@ -10,13 +10,13 @@ use Rattle.afdx_config.specs.Rows.{Rows}
 use Rattle.afdx_police.specs.Arrival.{Arrival, names}
 use Rattle.afdx_port.specs.Schedule.{Turn, AreTurns}
 use Rattle.afdx_port.proofs.TurnLemmas.{eqb-other, nat_lt-false}
-use Rattle.afdx_bounds.specs.Outputs.{Row}
+use Rattle.afdx_law_bounds.specs.Outputs.{Row}
 use Rattle.afdx_switch.specs.Admitted.{IsAdmittedRun}
 use Rattle.afdx_switch.specs.HeldFrames.{HeldFrame}
 use Rattle.afdx_switch.specs.Switching.{PortTurn, taken_at}
 use Rattle.afdx_switch.specs.Tables.{byte_ns_at, entries_at, rule_of, port_of}
 use Rattle.afdx_switch.specs.Verdicts.{reason_of}
-use Rattle.afdx_promises.specs.Sent.{arrivals_at}
+use Rattle.afdx_law_promises.specs.Sent.{arrivals_at}
 use Rattle.afdx_cascade.specs.Cables.{brought, brought_by}
 use Rattle.afdx_cascade.specs.Examples.{tables_before, link_before, tables_after, link_after}
 use Rattle.afdx_cascade.specs.SwitchEvents.{IsPlan, End, SwitchEvent, KeepsRules, at_switch}

@@ -9,7 +9,7 @@ use Rattle.afdx_frame.proofs.ListLemmas.{slice_get-within}
 use Rattle.afdx_port.proofs.TurnLemmas.{eqb-same}
 use Rattle.afdx_network.specs.Events.{Event, Came, Left, arrivals_in}
 use Rattle.afdx_network.specs.Order.{IsAmong, is_below, key, phase_of, side_number}
-use Rattle.afdx_promises.specs.Sent.{arrivals_at}
+use Rattle.afdx_law_promises.specs.Sent.{arrivals_at}
 use Rattle.afdx_cascade.specs.Cables.{brought, brought_by}
 use Rattle.afdx_cascade.specs.Cascade.{StandsFor}
 use Rattle.afdx_cascade.specs.Due.{OnCable, AreAscending, from_end, has_left}

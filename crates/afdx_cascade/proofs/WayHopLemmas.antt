@@ -17,7 +17,7 @@ use Rattle.afdx_config.specs.Switches.{NamedRows, AreSwitches, far_end}
 use Rattle.afdx_config.proofs.AmongOthersLemmas.{admitted-serving}
 use Rattle.afdx_config.proofs.LookUpLemmas.{each_row-found}
 use Rattle.afdx_admit.specs.Cascade.{RowAt, row_before, same_policing, same_contract, IsCascadeAdmitted}
-use Rattle.afdx_bounds.specs.Outputs.{AreTimed}
+use Rattle.afdx_law_bounds.specs.Outputs.{AreTimed}
 use Rattle.afdx_switch.specs.Admitted.{IsAdmittedRun}
 use Rattle.afdx_switch.specs.Tables.{rule_of, port_of, goes_to}
 use Rattle.afdx_network.specs.Events.{Event, Came, Left, Admission, arrivals_in}

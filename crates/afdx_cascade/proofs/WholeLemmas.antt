@@ -20,7 +20,7 @@ use Rattle.afdx_admit.specs.Cascade.{RowAt, row_at, row_before, is_sent_here}
 use Rattle.afdx_police.specs.Arrival.{Arrival, is_side, names, own}
 use Rattle.afdx_police.specs.Rule.{Rule}
 use Rattle.afdx_police.specs.Verdicts.{accepted_arrivals, reason_after}
-use Rattle.afdx_bounds.specs.Outputs.{AreTimed}
+use Rattle.afdx_law_bounds.specs.Outputs.{AreTimed}
 use Rattle.afdx_port.specs.Schedule.{Entry, Turn, AreTurns, end_of}
 use Rattle.afdx_port.proofs.TurnLemmas.{next_of, schedule_begins}
 use Rattle.afdx_switch.specs.Admitted.{IsAdmittedRun, accepted_frames, frames_among}
@@ -34,7 +34,7 @@ use Rattle.afdx_switch.proofs.HopLemmas.{AllPass, accepted-pass}
 use Rattle.afdx_network.specs.Events.{Event, Came, Left, arrivals_in, turns_at}
 use Rattle.afdx_network.specs.Network.{departure_after}
 use Rattle.afdx_network.specs.Order.{side_number}
-use Rattle.afdx_promises.proofs.PortLemmas.{its-turns}
+use Rattle.afdx_law_promises.proofs.PortLemmas.{its-turns}
 use Rattle.afdx_cascade.specs.Admitted.{IsRow, AreRowsBefore, IsAdmittedCascade, IsListInTime, hop_at, hops_at}
 use Rattle.afdx_cascade.specs.Admitted.{RowsAreWholeWays}
 use Rattle.afdx_cascade.specs.Cables.{Hop, GoesOn, accepted_at, all_turns, brought, brought_by, named}

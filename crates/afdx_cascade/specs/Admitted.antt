@@ -10,7 +10,7 @@ use Rattle.afdx_admit.specs.AtSwitch.{link_at}
 use Rattle.afdx_admit.specs.Cascade.{RowAt, row_before, is_sent_here, way_latency}
 use Rattle.afdx_admit.specs.Cascade.{IsCascadeAdmitted}
 use Rattle.afdx_police.specs.Arrival.{Arrival, names}
-use Rattle.afdx_bounds.specs.Outputs.{AreTimed}
+use Rattle.afdx_law_bounds.specs.Outputs.{AreTimed}
 use Rattle.afdx_switch.specs.Tables.{rule_of}
 use Rattle.afdx_switch.specs.Verdicts.{reason_of}
 use Rattle.afdx_cascade.specs.Cables.{Hop}

@@ -13,7 +13,7 @@ use Rattle.afdx_switch.specs.Switching.{PortTurn, IsNextOf}
 use Rattle.afdx_network.specs.Events.{Left, calls_on}
 use Rattle.afdx_network.specs.Network.{IsNextOn, departure_after}
 use Rattle.afdx_network.specs.Order.{is_below, side_number}
-use Rattle.afdx_promises.specs.Sent.{arrivals_at}
+use Rattle.afdx_law_promises.specs.Sent.{arrivals_at}
 use Rattle.afdx_cascade.specs.Cables.{brought, brought_by}
 use Rattle.afdx_cascade.specs.SwitchEvents.{Plan, IsPlan, End, SwitchEvent, at_switch, came_to, in_clock, turns_of}
 use Rattle.afdx_cascade.specs.Runs.{Line, IsBeforeLine, IsFirstDue, arriving, event_at, turn_phase}

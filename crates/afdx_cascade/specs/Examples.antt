@@ -8,7 +8,7 @@ use Rattle.afdx_config.specs.Rows.{SystemRow, LinkRow, PortRow, Rows, example_li
 use Rattle.afdx_config.specs.Switches.{NamedRows, named_rows}
 use Rattle.afdx_config.specs.declared.rows.Kind.TheVariants.{Sampling}
 use Rattle.afdx_switch.specs.Tables.{goes_to}
-use Rattle.afdx_promises.specs.Examples.{sender, receiver, one}
+use Rattle.afdx_law_promises.specs.Examples.{sender, receiver, one}
 use Rattle.afdx_cascade.specs.Cables.{Hop, accepted_at, all_turns, brought_by}
 use Rattle.afdx_cascade.specs.Ways.{IsWay, IsWhole}
 

@@ -7,7 +7,7 @@ use Rattle.afdx_frame.specs.declared.link.Side.{Side}
 use Rattle.afdx_network.specs.Events.{Event, Came, Left}
 use Rattle.afdx_network.specs.Order.{events_of}
 use Rattle.afdx_police.specs.Arrival.{Arrival}
-use Rattle.afdx_promises.specs.Sent.{arrivals_at}
+use Rattle.afdx_law_promises.specs.Sent.{arrivals_at}
 use Rattle.afdx_cascade.specs.Cables.{brought_by}
 use Rattle.afdx_cascade.specs.Cascade.{StandsFor}
 use Rattle.afdx_cascade.specs.Keeping.{IsNothingDue}

@@ -15,8 +15,8 @@ use Rattle.afdx_police.specs.Arrival.{Arrival}
 use Rattle.afdx_switch.specs.Streams.{at_own_port, AreFirstOf, IsFed, IsStreamOf}
 use Rattle.afdx_network.specs.Events.{Event}
 use Rattle.afdx_network.specs.Order.{events_of}
-use Rattle.afdx_promises.specs.Lines.{Line, messages_told, told_by}
-use Rattle.afdx_promises.specs.Promises.{most_come, told}
+use Rattle.afdx_law_promises.specs.Lines.{Line, messages_told, told_by}
+use Rattle.afdx_law_promises.specs.Promises.{most_come, told}
 use Rattle.afdx_cascade.specs.Admitted.{IsRow, AreRowsBefore, IsAdmittedCascade}
 use Rattle.afdx_cascade.specs.EndToEnd.{AreAllEvents, begins_at, left_from}
 use Rattle.afdx_cascade.specs.Plans.{tables_of}

@@ -9,7 +9,7 @@ use Rattle.afdx_admit.specs.Cascade.{RowAt}
 use Rattle.afdx_send.specs.Emissions.{own, sent_list}
 use Rattle.afdx_send.specs.Laws.{IsBuildable, EmitsLawfully}
 use Rattle.afdx_send.specs.Sender.{SenderHistory}
-use Rattle.afdx_promises.specs.Sent.{AreSentAs, IsMerged, IsMergedSoFar, arrivals_at, stream_of}
+use Rattle.afdx_law_promises.specs.Sent.{AreSentAs, IsMerged, IsMergedSoFar, arrivals_at, stream_of}
 use Rattle.afdx_cascade.specs.EndToEnd.{begins_at}
 use Rattle.afdx_cascade.specs.Plans.{tables_of}
 use Rattle.afdx_cascade.specs.Receivers.{EachIsHeardOnce, EachIsHeardOnceSoFar, IsWayToSystem}

@@ -9,7 +9,7 @@ use Rattle.afdx_switch.specs.HeldFrames.{HeldFrame}
 use Rattle.afdx_network.specs.Events.{Event, Came, Left, admission_after}
 use Rattle.afdx_network.specs.Network.{IsNextOn, departure_after}
 use Rattle.afdx_network.specs.Order.{is_below, side_number}
-use Rattle.afdx_promises.specs.Sent.{arrivals_at}
+use Rattle.afdx_law_promises.specs.Sent.{arrivals_at}
 use Rattle.afdx_cascade.specs.Cables.{brought_by}
 use Rattle.afdx_cascade.specs.SwitchEvents.{Plan, End, SwitchEvent, at_switch, came_to, in_clock, turns_of}
 

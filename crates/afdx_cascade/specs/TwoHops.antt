@@ -12,7 +12,7 @@ use Rattle.afdx_port.specs.Schedule.{Turn}
 use Rattle.afdx_switch.specs.HeldFrames.{HeldFrame}
 use Rattle.afdx_network.specs.Events.{Left}
 use Rattle.afdx_network.specs.Network.{departure_after}
-use Rattle.afdx_promises.specs.Examples.{first_on, heard}
+use Rattle.afdx_law_promises.specs.Examples.{first_on, heard}
 use Rattle.afdx_cascade.specs.Cables.{brought}
 use Rattle.afdx_cascade.specs.EndToEnd.{AreAllEvents}
 use Rattle.afdx_cascade.specs.Examples.{link_before, link_after, switches, tables_before}

@@ -1,13 +1,13 @@
 //! How two inputs begin that no option says are recordings.
 
 ghost use Rattle.std.specs.Prelude.{OnOk};
-ghost use Rattle.afdx_lists.specs.Peeking.{is_untouched};
-ghost use Rattle.afdx_lists.specs.Watching.{device_of};
-ghost use Rattle.afdx_inputs.specs.Arrivals.{IsSound};
-ghost use Rattle.afdx_inputs.specs.SeenFrames.{AreNewByRole};
+ghost use Rattle.afdx_input_lines.specs.Peeking.{is_untouched};
+ghost use Rattle.afdx_input_lines.specs.Watching.{device_of};
+ghost use Rattle.afdx_input_runs.specs.Arrivals.{IsSound};
+ghost use Rattle.afdx_input_runs.specs.SeenFrames.{AreNewByRole};
 
-use afdx_lists::{ByRole, Peeked, RecordingFault, Role, RunFault, Watched};
-use afdx_recordings::{is_packed_file, is_recording};
+use afdx_input_files::{is_packed_file, is_recording};
+use afdx_input_lines::{ByRole, Peeked, RecordingFault, Role, RunFault, Watched};
 use std::io::Read;
 
 /// Why an input is not read as a list.

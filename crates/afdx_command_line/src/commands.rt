@@ -4,18 +4,18 @@ ghost use Rattle.std.specs.Prelude.{◌≡◌};
 
 use crate::configs::{check_config, solve_tables};
 use crate::conforming::judge_inputs;
-use crate::running::{Replaying, Run, run_inputs, run_sender};
-use afdx_commands::status::{DONE, WRONG_WORDS};
-use afdx_console::{
+use crate::console::{
     Cause, complain, end_with, explain_if_asked, line_of, memory, print_lists, print_meaning,
     read_config, take_places, tell_text, visible_text,
 };
-use afdx_explain::meaning_of;
-use afdx_replay::{CommandedRule, RunFault};
-use afdx_words::{
+use crate::running::{Replaying, Run, run_inputs, run_sender};
+use afdx_command_tables::status::{DONE, WRONG_WORDS};
+use afdx_command_words::{
     PoliceOptions, afdx_command, conform_inputs, inputs_in, police_options, replay_options,
     send_words, wants_lists,
 };
+use afdx_explain::meaning_of;
+use afdx_replay::{CommandedRule, RunFault};
 use clap::error::ErrorKind;
 use clap::{ArgMatches, Error};
 use std::alloc::{AllocError, Global};

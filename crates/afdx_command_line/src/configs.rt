@@ -1,9 +1,10 @@
 //! The commands over a configuration alone.
 
-use afdx_commands::status::DONE;
-use afdx_console::{Cause, Heard, Traced, error_lines, explain_if_asked, read_config};
+use crate::console::{Cause, Heard, Traced, error_lines, explain_if_asked, read_config};
+use crate::running::refuse;
+use afdx_command_tables::status::DONE;
+use afdx_command_words::{check_options, solve_options};
 use afdx_replay::{Watched, check_lines, solve_config};
-use afdx_words::{check_options, solve_options};
 use clap::ArgMatches;
 use std::io::Write;
 
@@ -57,7 +58,10 @@ pub fn solve_tables(rt: &HostRuntime, matches: &ArgMatches<'_>) -> u8 {
     let config = config.as_slice();
     let mut output = Watched::new(Heard::new(Traced::new(rt.stdout())));
     let mut errors = Watched::new(Heard::new(error_lines(rt)));
-    let options = solve_options(matches);
+    let options = match solve_options(matches) {
+        Ok(options) => options,
+        Err(refused) => return refuse(rt, matches, refused),
+    };
     let status = solve_config(rt.alloc(), options, config, &mut output, &mut errors);
     explain_end(rt, matches, config, status, output, errors)
 }

@@ -1,22 +1,22 @@
 //! The command `conform`: its devices, and how it ends.
 
 use crate::beginnings::{NoList, look_at_both};
-use crate::running::{cause_in, failed_of, open, output_room, refuse};
-use afdx_acceptance::{ByRole, Choices, Judged, Leeway, conform};
-use afdx_commands::status::DONE;
-use afdx_console::{
+use crate::console::{
     Cause, Cleared, Count, Counted, Heard, Input, Traced, error_lines, explain_if_asked, is_told,
     memory,
 };
-use afdx_frame::BySide;
-use afdx_inputs::{AsLists, SeenCount};
-use afdx_lists::Role;
-use afdx_replay::{Output, Peeked, RunFault, Tally, Watched, finish};
-use afdx_text::{WholeLines, tell_fault};
-use afdx_words::{
+use crate::running::{cause_in, failed_of, open, output_room, refuse};
+use afdx_command_conform::{ByRole, Choices, Judged, Leeway, conform};
+use afdx_command_tables::status::DONE;
+use afdx_command_words::{
     BadPlace, ConformInputs, Refused, STANDARD_INPUT, conform_options, seen_options,
     seen_pair_options, switch_in, wants_summary,
 };
+use afdx_frame::BySide;
+use afdx_input_lines::Role;
+use afdx_input_runs::{AsLists, SeenCount};
+use afdx_replay::{Output, Peeked, RunFault, Tally, Watched, finish};
+use afdx_text::{WholeLines, tell_fault};
 use clap::ArgMatches;
 use std::alloc::Global;
 use std::io;

@@ -5,6 +5,8 @@ mod beginnings;
 mod commands;
 mod configs;
 mod conforming;
+mod console;
+mod locating;
 mod running;
 
 pub use commands::run_command_line;

@@ -3,10 +3,13 @@
 ghost use Rattle.std.specs.Prelude.{◌≡◌, Some, codes, false};
 ghost use Rattle.clap.specs.Words.{found_of, one_text};
 
-use afdx_commands::status::{DONE, WRONG_WORDS};
-use afdx_console::{
+use crate::console::{
     Cause, Cleared, Count, Counted, Heard, Input, Traced, complain, error_lines, explain_if_asked,
     is_told, memory, name_of_input, no_file, tell_visible,
+};
+use afdx_command_tables::status::{DONE, WRONG_WORDS};
+use afdx_command_words::{
+    Refused, ReplayOptions, SendWords, pair_options, recording_options, wants_summary,
 };
 use afdx_frame::BySide;
 use afdx_replay::{
@@ -15,9 +18,6 @@ use afdx_replay::{
     police_input, replay_input, send_and_count,
 };
 use afdx_text::WholeLines;
-use afdx_words::{
-    Refused, ReplayOptions, SendWords, pair_options, recording_options, wants_summary,
-};
 use clap::ArgMatches;
 use std::io::{IsTerminal, Read, Stderr, Write};
 

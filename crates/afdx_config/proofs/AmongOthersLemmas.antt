@@ -84,7 +84,8 @@ link-alone systems l is most = record {
 }
 
 links-alone : (systems : ℕ) (links : List LinkRow) → AllByRecursion (IsLinkUpTo jitter_from_any systems) links
-    → ((i : ℕ) (l : LinkRow) → slice_get links i ≡ Some l → l.from < systems → l.jitter_us ≤ jitter_from_system l.bag_ms)
+    → ((i : ℕ) (l : LinkRow) → slice_get links i ≡ Some l → l.from < systems
+    → l.jitter_us ≤ jitter_from_system l.bag_ms)
     → AllByRecursion (IsLink systems) links
 links-alone systems [] all sent = tt
 links-alone systems (l ∷ links) all sent = (

@@ -54,7 +54,8 @@ module _ {X Y : Type 0} (f : X → Y) where
       → option_map_or g (slice_get (map f xs) k) d ≡ option_map_or h (slice_get xs k) d
   at-map g h d same xs k = ap (λ o. option_map_or g o d) (slice_get-map f xs k) ∙ or-map g h d same (slice_get xs k)
 
-  pub then_at-map : {Z : Type 0} (g : Y → Option Z) (h : X → Option Z) → ((x : X) → g (f x) ≡ h x) → (xs : List X) (k : ℕ)
+  pub then_at-map : {Z : Type 0} (g : Y → Option Z) (h : X → Option Z) → ((x : X) → g (f x) ≡ h x)
+      → (xs : List X) (k : ℕ)
       → option_and_then g (slice_get (map f xs) k) ≡ option_and_then h (slice_get xs k)
   then_at-map g h same xs k = ap (option_and_then g) (slice_get-map f xs k) ∙ then-map g h same (slice_get xs k)
 
@@ -79,7 +80,8 @@ starts-bare t vl =
     ap (λ i. option_map_or from (option_and_then (slice_get (map bare_link t.links)) i) false) (link_of-bare t.links vl)
     ∙ by (link_of t.links vl)
   where
-    by : (o : Option ℕ) → option_map_or (λ l. nat_lt l.from t.own) (option_and_then (slice_get (map bare_link t.links)) o) false
+    by : (o : Option ℕ) → option_map_or (λ l. nat_lt l.from t.own)
+        (option_and_then (slice_get (map bare_link t.links)) o) false
         ≡ option_map_or (λ l. nat_lt l.from t.own) (option_and_then (slice_get t.links) o) false
     by None = refl
     by (Some i) = at-map bare_link (λ l. nat_lt l.from t.own) (λ l. nat_lt l.from t.own) false (λ l. refl) t.links i
@@ -127,7 +129,8 @@ module _ (ss : List NamedRows) where
       (switch_named-bare e.name)
       ∙ ap (λ o. over_all_line (not (is_some (switch_named ss e.name)) && is_this o k) k
       (Twice (place part.System (i + 1) 1))
-      ∷ over_all_line (is_this (home_of_id bs e.id) k) k (Twice (place part.System (i + 1) 3)) ∷ []) (home_of-bare e.name)
+      ∷ over_all_line (is_this (home_of_id bs e.id) k) k (Twice (place part.System (i + 1) 3)) ∷ [])
+      (home_of-bare e.name)
       ∙ ap (λ o. over_all_line (not (is_some (switch_named ss e.name)) && is_this (home_of ss e.name) k) k
       (Twice (place part.System (i + 1) 1))
       ∷ over_all_line (is_this o k) k (Twice (place part.System (i + 1) 3)) ∷ []) (home_of_id-bare e.id)
@@ -150,7 +153,8 @@ module _ (ss : List NamedRows) where
   then-same g h same None = refl
   then-same g h same (Some x) = same x
 
-  neighbour-same : (name : List ℕ) (k i : ℕ) (e : SystemRow) → lines_of_neighbour bs name k i e ≡ lines_of_neighbour ss name k i e
+  neighbour-same : (name : List ℕ) (k i : ℕ) (e : SystemRow)
+      → lines_of_neighbour bs name k i e ≡ lines_of_neighbour ss name k i e
   neighbour-same name k i e =
       ap (λ far. of far (option_and_then (listed_at bs name) far)) (switch_named-bare e.name)
       ∙ ap (λ back. of (switch_named ss e.name) back)
@@ -167,11 +171,13 @@ module _ (ss : List NamedRows) where
   neighbour_lines-bare : (k i : ℕ) → neighbour_lines bs k i ≡ neighbour_lines ss k i
   unfolding neighbour_lines
   neighbour_lines-bare k i = at-map bare_switch (at-switch bs) (at-switch ss) []
-      (λ s. or-same (lines_of_neighbour bs s.name k (i - s.rows.own + 1)) (lines_of_neighbour ss s.name k (i - s.rows.own + 1))
+      (λ s. or-same (lines_of_neighbour bs s.name k (i - s.rows.own + 1))
+      (lines_of_neighbour ss s.name k (i - s.rows.own + 1))
       [] (neighbour-same s.name k (i - s.rows.own + 1)) (slice_get s.rows.systems i)) ss k
     where
       at-switch : List NamedRows → NamedRows → List (Line FileFault)
-      at-switch xs s = option_map_or (lines_of_neighbour xs s.name k (i - s.rows.own + 1)) (slice_get s.rows.systems i) []
+      at-switch xs s = option_map_or (lines_of_neighbour xs s.name k (i - s.rows.own + 1))
+          (slice_get s.rows.systems i) []
 
   start_lines-bare : (k i : ℕ) → start_lines bs k i ≡ start_lines ss k i
   unfolding start_lines

@@ -39,7 +39,8 @@ all_changed P i times [] h new = tt
 all_changed P zero times (l ∷ ls) h new = (new l refl, h.1)
 all_changed P (suc i) times (l ∷ ls) h new = (h.0, all_changed P i times ls h.1 new)
 
-links-changed : (greatest : ℕ → ℕ) (systems i : ℕ) (times : Times) (ls : List LinkRow) → AreLinksUpTo greatest systems ls
+links-changed : (greatest : ℕ → ℕ) (systems i : ℕ) (times : Times) (ls : List LinkRow)
+    → AreLinksUpTo greatest systems ls
     → ((l : LinkRow) → slice_get ls i ≡ Some l → IsLinkUpTo greatest systems (with_times times l))
     → AreLinksUpTo greatest systems (changed_at i times ls)
 unfolding AreDistinct

@@ -50,7 +50,8 @@ length-changed change (s ∷ ss) zero = refl
 length-changed change (s ∷ ss) (suc k) = ap suc (length-changed change ss k)
 
 names-changed : (change : Rows → Rows) (ss : List NamedRows) (k : ℕ)
-    → AllByRecursion (λ s. is_name s.name ≡ true) ss → AllByRecursion (λ s. is_name s.name ≡ true) (changed_switch k change ss)
+    → AllByRecursion (λ s. is_name s.name ≡ true) ss
+    → AllByRecursion (λ s. is_name s.name ≡ true) (changed_switch k change ss)
 unfolding changed_switch
 names-changed change [] k h = tt
 names-changed change (s ∷ ss) zero h = h

@@ -1,5 +1,5 @@
 -- Items that are read one after the other, as a loop does.
-use Rattle.std.proofs.Common.{◌≡◌, ℕ, ◌≤◌, arith, Bool, true, false, List, [], ◌∷◌, ◌++◌, Option}
+use Rattle.std.proofs.Common.{◌≡◌, ℕ, Bool, List, [], ◌∷◌, ◌++◌, Option}
 use Rattle.std.proofs.Common.{refl, ap, ◌&&◌, ◌||◌}
 use Rattle.std.proofs.Common.{string_bytes, String, Global, nat_eq}
 use Rattle.std.specs.Option.{option_map}
@@ -13,7 +13,6 @@ use Rattle.afdx_config.specs.declared.rows.SystemId.{SystemId}
 use Rattle.afdx_config.specs.declared.rows.ComRow.{ComRow}
 use Rattle.afdx_config.specs.Rows.{system_places, PortRow, port_row, port_rows}
 use Rattle.std.specs.List.{AllByRecursion}
-use Rattle.std.proofs.lemmas.Bool.{eqb-true}
 use Rattle.afdx_config.specs.Keys.{Key, are_among, key_rows}
 
 -- under a name that code can cite
@@ -45,16 +44,6 @@ any_places (i ∷ ids) n = ap (λ b. nat_eq i.0 n || b) (any_places ids n)
 pub any_ports : (q : PortRow → Bool) (cs : List ComRow) → list_any q (port_rows cs) ≡ list_any (λ c. q (port_row c)) cs
 any_ports q [] = refl
 any_ports q (c ∷ cs) = ap (λ b. q (port_row c) || b) (any_ports q cs)
-
--- a number that is one of some is at most a bound of them all
-pub at_most : (n k : ℕ) (ns : List ℕ) → AllByRecursion (λ m. m ≤ k) ns → list_any (λ m. nat_eq m n) ns ≡ true → n ≤ k
-at_most n k [] h e = absurd cc
-at_most n k (m ∷ ns) h e = by (nat_eq m n) refl (at_most n k ns h.1) e
-  where
-    by : (b : Bool) → nat_eq m n ≡ b → (list_any (λ x. nat_eq x n) ns ≡ true → n ≤ k)
-        → b || list_any (λ x. nat_eq x n) ns ≡ true → n ≤ k
-    by true same later e = omega (arith, h.0, eqb-true _ _ same)
-    by false other later e = later e
 
 pub port_rows-push : (cs : List ComRow) (c : ComRow) → port_rows (cs ++ c ∷ []) ≡ port_rows cs ++ port_row c ∷ []
 port_rows-push [] c = refl

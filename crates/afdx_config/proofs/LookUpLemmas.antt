@@ -41,6 +41,7 @@ unfolding listener_at
 listeners t lawful = record {
   only = λ port i h. heard t.own (system_at_port t.systems port) i h;
   each = λ i s at below.
-      ap (λ o. option_and_then (λ i. if nat_lt i t.own then Some i else None) o) ((each_row-found t lawful).by_port i s at)
+      ap (λ o. option_and_then (λ i. if nat_lt i t.own then Some i else None) o)
+      ((each_row-found t lawful).by_port i s at)
       ∙ ap (λ b. if b then Some i else None) (lt-ltb i t.own below);
 }

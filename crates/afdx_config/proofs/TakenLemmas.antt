@@ -31,9 +31,15 @@ module _ {R : Type 0} (p : R → Bool) where
     | inl within ↦ elim (cases_lt first n) [
       | inl below_n ↦
           let e : min n first ≡ first = omega (arith, below_n) in
-          rw (lt-ltb first count within, lt-ltb first n below_n, e, lt-ltb first (min n count) (omega (arith, within, below_n))) refl
+          rw (
+            lt-ltb first count within,
+            lt-ltb first n below_n,
+            e,
+            lt-ltb first (min n count) (omega (arith, within, below_n)),
+          ) refl
       | inr past ↦
-          rw (lt-ltb first count within, le-ltb first n past, le-ltb (min n first) (min n count) (omega (arith, past))) refl
+          rw (lt-ltb first count within, le-ltb first n past, le-ltb (min n first) (min n count) (omega (arith, past)))
+          refl
     ]
   ]
 

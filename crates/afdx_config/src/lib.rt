@@ -1,6 +1,6 @@
 //! The tables of a network, read from TOML text and checked in one order.
 //!
-//! Its tests are in `afdx_part_tests`.
+//! Its tests are in `afdx_test_parts`.
 #![tactic(auto)]
 
 mod asked;

@@ -6,6 +6,7 @@ use Rattle.std.proofs.lemmas.List.{length-map, map-append, take_more}
 use Rattle.std.specs.List.{filter, list_any}
 use Rattle.std.specs.Str.{bytes_eq}
 use Rattle.afdx_police.specs.Arrival.{Arrival}
+use Rattle.afdx_conform.specs.Arriving.{IsSpanOf}
 use Rattle.afdx_conform.specs.Bounds.{HaveToPass}
 use Rattle.afdx_conform.specs.Explanations.{link, charge, levels_then}
 use Rattle.afdx_conform.specs.Findings.{Finding, Judged, with_states, with_finding, frames_of, front_rest, lead, with_rest, has_some, aged, as_accepted, asked, stopped, took, unexplained, is_far, is_early, is_late, deviation_of, deviates}
@@ -16,6 +17,7 @@ use Rattle.afdx_conform.specs.Accounts.{AreLevels, AreNear}
 use Rattle.afdx_conform.specs.Naming.{unexplained_all, with_last}
 use Rattle.afdx_conform.specs.declared.levels.Rates.{Rates}
 use Rattle.afdx_conform.specs.declared.limits.Frame.{Frame}
+use Rattle.afdx_conform.specs.declared.deviate.Span.{Span}
 use Rattle.afdx_conform.specs.States.{State, led_by, states_at}
 use Rattle.afdx_conform.specs.Streams.{Gone, Terms, fits}
 use Rattle.afdx_conform.specs.declared.finding.Deviation.{Deviation}
@@ -179,6 +181,9 @@ module _ (z : Terms) (last : ℕ) (behind : List Arrival) (x : Arrival) (ys : Li
 
 -- ---- the frames that are unexplained
 
+abbrev span_of : ℕ → ℕ → Span
+span_of first past = record { first = first; past = past }
+
 module _ (z : Terms) (time : ℕ) (fs : List Frame) (j : Judged) where
   -- those from one on, before another
   abbrev pub Passed : ℕ → ℕ → Judged
@@ -190,12 +195,12 @@ module _ (z : Terms) (time : ℕ) (fs : List Frame) (j : Judged) where
       ap (λ (n : ℕ). unexplained_all z time (map gone_of (take n (drop first fs))) j) none ∙ all-none z time j
 
   -- what is found behind them
-  pub last-is : (first past u v : ℕ) (last : Option Finding) (f : Finding) → u ≡ first → v ≡ past → last ≡ Some f
-      → with_last time last (Passed u v) ≡ with_finding time f (frames_of f) (Passed first past)
-  last-is first past u v last f e k o =
-      ap (λ (l : Option Finding). with_last time l (Passed u v)) o
-      ∙ ap (λ (n : ℕ). with_finding time f (frames_of f) (Passed u n)) k
-      ∙ ap (λ (n : ℕ). with_finding time f (frames_of f) (Passed n past)) e
+  pub last-is : (first past : ℕ) (span : Span) (last : Option Finding) (f : Finding) → span ≡ span_of first past
+      → last ≡ Some f
+      → with_last time last (Passed span.first span.past) ≡ with_finding time f (frames_of f) (Passed first past)
+  last-is first past span last f e o =
+      ap (λ (l : Option Finding). with_last time l (Passed span.first span.past)) o
+      ∙ ap (λ (s : Span). with_finding time f (frames_of f) (Passed s.first s.past)) e
 
 range-more : (fs : List Frame) (first front : ℕ) (f : Frame) → first ≤ front → front < length fs → f ≡ get_or fs front f
     → map gone_of (take (front + 1 - first) (drop first fs)) ≡ map gone_of (take (front - first) (drop first fs))
@@ -224,8 +229,11 @@ passed-next z time fs j first front f le lt is =
     ap (λ (l : List Gone). unexplained_all z time l j) (range-more fs first front f le lt is)
     ∙ all-more z time (map gone_of (take (front - first) (drop first fs))) (gone_of f) j
 
-pub inside-on : (first past u v n : ℕ) → u ≡ first → v ≡ past → first ≤ past → past ≤ n → (u ≤ v) × (v ≤ n)
-inside-on first past u v n e k le most = (omega (arith, e, k, le), omega (arith, k, most))
+pub inside-on : (first past : ℕ) (span : Span) (fs : List Frame) → span ≡ span_of first past → first ≤ past
+    → past ≤ length fs
+    → IsSpanOf span fs
+inside-on first past span fs e le most =
+    subst (λ (s : Span). IsSpanOf s fs) (sym e) (record { order = le; within = most })
 
 -- ---- the code's steps
 

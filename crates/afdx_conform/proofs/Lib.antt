@@ -83,3 +83,4 @@ pub mod StillLemmas
 pub mod PassedLemmas
 pub mod LeanLemmas
 pub mod WindowLemmas
+pub mod WayLemmas

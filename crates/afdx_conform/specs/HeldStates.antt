@@ -1,5 +1,5 @@
 -- The states that the code holds.
-use Rattle.std.specs.Prelude.{◌≡◌, ◌<◌, ◌≤◌, ℕ, IsTrue, Bool, false, ⊤, not, ◌&&◌, nat_eq, nat_le, List, [], ◌∷◌, ◌++◌, drop, take, length, if◌then◌else◌}
+use Rattle.std.specs.Prelude.{◌≡◌, ◌<◌, ◌≤◌, ℕ, All, IsTrue, Bool, false, ⊤, not, ◌&&◌, nat_eq, nat_le, List, [], ◌∷◌, ◌++◌, drop, take, length, if◌then◌else◌}
 use Rattle.std.specs.List.{AllByRecursion, list_any, filter}
 use Rattle.afdx_conform.specs.Ranges.{most_held}
 use Rattle.afdx_police.specs.Arrival.{Arrival}
@@ -56,6 +56,9 @@ pub record IsWithin (rates : Rates) (frames count : ℕ) (held : Held) : Type 0 
   pub waiting : held.waiting ≤ count
   pub levels : AreLevels rates held.levels
   pub near : AreNear rates held.levels
+
+abbrev pub AreWithin : Rates → (frames count : ℕ) → List Held → Type 0
+AreWithin rates frames count held = All (λ h. IsWithin rates frames count h) held
 
 -- with what stands next in it: a frame that fits is one of these
 pub record IsCaseWithin (rates : Rates) (frames count : ℕ) (case : Case) : Type 0 where

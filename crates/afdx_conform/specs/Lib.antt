@@ -39,3 +39,4 @@ pub mod Holding
 pub mod Growing
 pub mod Standing
 pub mod Arriving
+pub mod Ways

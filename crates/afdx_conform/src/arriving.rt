@@ -12,7 +12,7 @@ ghost use Rattle.afdx_conform.specs.Leeway.{Leeway as By};
 ghost use Rattle.afdx_conform.specs.Explanations.{link};
 ghost use Rattle.afdx_conform.specs.Findings.{thinned_onto, most_states, rate_mark};
 ghost use Rattle.afdx_conform.specs.Findings.{is_uncertain as uncertain_of};
-ghost use Rattle.afdx_conform.specs.HeldStates.{IsWithin, state_of};
+ghost use Rattle.afdx_conform.specs.HeldStates.{AreWithin, IsWithin, state_of};
 ghost use Rattle.afdx_conform.specs.Judging.{IsUnchanged};
 ghost use Rattle.afdx_conform.specs.Marks.{IsCharged, arrival_of};
 ghost use Rattle.afdx_conform.specs.Naming.{AreSettled};
@@ -21,14 +21,15 @@ ghost use Rattle.afdx_conform.specs.Streams.{Gone, Terms};
 
 use crate::arrived::Arrived;
 use crate::bounds::Bounds;
+use crate::coming::Coming;
 use crate::deviate::{deviate, has_any};
 use crate::finding::{Finding, Mark};
 use crate::judging::Judging;
-use crate::known_bytes::KnownBytes;
-use crate::leading::{Moment, led_alone, led_from};
+use crate::known_bytes::{KnownBytes, Lookup};
+use crate::leading::{led_alone, led_from};
 use crate::levels::Rates;
-use crate::limits::Frame;
 use crate::naming::unexplained_all;
+use crate::recorded::Recorded;
 use crate::states::{Held, thinned};
 use crate::testing::{is_uncertain, may_go_once};
 use afdx_police::Reason;
@@ -168,55 +169,48 @@ fn go_wrong(
     alloc: Global,
     bounds: &Bounds,
     known: &mut KnownBytes,
-    arrivals: &[Arrived],
-    frames: &[Frame],
-    arrived: &Arrived,
-    moment: Moment,
-    tested: Tested,
+    recorded: &Recorded<'_>,
+    coming: &Coming<'_>,
 ) -> Result<Vec<Finding>, AllocError>
-    requires place { length judging.old.marks.items < length arrivals.now }
-    requires few { length frames.now < most_held }
+    requires place { length judging.old.marks.items < length recorded.now.arrivals.now }
+    requires few { length recorded.now.frames.now < most_held }
     requires counted { judging.old.uncertain < most_held }
-    requires known { AreKnown known.old arrivals.now }
-    requires settled { AreSettled known.old.gaps.items arrivals.now judging.old.marks.items }
+    requires known { AreKnown known.old recorded.now.arrivals.now }
+    requires settled { AreSettled known.old.gaps.items recorded.now.arrivals.now
+        judging.old.marks.items }
     requires within { (count : ℕ) × (count < most_held)
-        × All (λ h. IsWithin bounds.now.rates (length frames.now) count h)
+        × AreWithin bounds.now.rates (length recorded.now.frames.now) count
         judging.old.held.items }
-    ensures defined { JudgesDeviation (λ done. IfOk result done) bounds.now frames.now
-        arrivals.now judging.old judging.new arrived.now moment tested }
+    ensures defined { JudgesDeviation (λ done. IfOk result done) bounds.now recorded.now
+        judging.old judging.new coming.now }
     ensures marks { OnOk result
         (length judging.new.marks.items ≡ length judging.old.marks.items + 1) }
     ensures counted { OnOk result (judging.new.uncertain ≤ judging.old.uncertain + 1) }
     ensures within { (l : Regulation) (by : By) (count : ℕ) → AreRates l by bounds.now.rates →
-        All (λ h. IsWithin bounds.now.rates (length frames.now) count h)
-        judging.old.held.items →
-        OnOk result (All (λ h. IsWithin bounds.now.rates (length frames.now) (count + 1) h)
+        AreWithin bounds.now.rates (length recorded.now.frames.now) count judging.old.held.items →
+        OnOk result (AreWithin bounds.now.rates (length recorded.now.frames.now) (count + 1)
         judging.new.held.items) }
-    ensures known { AreKnown known.new arrivals.now }
-    ensures settled { AreSettled known.new.gaps.items arrivals.now judging.new.marks.items }
+    ensures known { AreKnown known.new recorded.now.arrivals.now }
+    ensures settled { AreSettled known.new.gaps.items recorded.now.arrivals.now
+        judging.new.marks.items }
     ensures refused { OnErr result (IsUnchanged judging.old judging.new) }
 {
+    let arrivals = recorded.arrivals;
+    let states = judging.held.as_slice();
+    let tested = test_arrival(&bounds.rates, states, coming.arrived, coming.ns);
+    let held = Vec::from_slice(alloc, states)?;
     let from = judging.marks.len() + 1;
-    let held = Vec::from_slice(alloc, judging.held.as_slice())?;
     let all = known.each(arrivals)?;
     let each = all.as_slice();
-    let outcome = deviate(
-        alloc, bounds, held, frames, known, each, arrivals, from, arrived, moment,
-    )?;
+    let lookup = Lookup { known, each, from };
+    let outcome = deviate(alloc, bounds, held, recorded, &lookup, coming)?;
     let few = thinned(alloc, outcome.held.as_slice())?;
-    let passed = &frames[outcome.first..outcome.past];
-    let mut found = Vec::with_capacity(alloc, passed.len() + 1)?;
+    let frames = &recorded.frames[outcome.passed.first..outcome.passed.past];
+    let mut found = Vec::with_capacity(alloc, frames.len() + 1)?;
     judging.marks.reserve(1)?;
     let marks = &mut judging.marks;
-    unexplained_all(
-        &bounds.limits,
-        known,
-        each,
-        arrivals,
-        marks,
-        passed,
-        &mut found,
-    );
+    let passed = Recorded { arrivals, frames };
+    unexplained_all(&bounds.limits, known, &passed, each, marks, &mut found);
     add_last(&mut found, outcome.last);
     judging.marks.push_reserved(Mark {
         reason: tested.reason,
@@ -233,33 +227,34 @@ pub(crate) fn judge_with(
     alloc: Global,
     bounds: &Bounds,
     known: &mut KnownBytes,
-    arrivals: &[Arrived],
-    frames: &[Frame],
-    arrived: &Arrived,
-    moment: Moment,
+    recorded: &Recorded<'_>,
+    coming: &Coming<'_>,
 ) -> Result<Vec<Finding>, AllocError>
-    requires place { length judging.old.marks.items < length arrivals.now }
-    requires few { length frames.now < most_held }
+    requires place { length judging.old.marks.items < length recorded.now.arrivals.now }
+    requires few { length recorded.now.frames.now < most_held }
     requires counted { judging.old.uncertain < most_held }
-    requires known { AreKnown known.old arrivals.now }
-    requires settled { AreSettled known.old.gaps.items arrivals.now judging.old.marks.items }
+    requires known { AreKnown known.old recorded.now.arrivals.now }
+    requires settled { AreSettled known.old.gaps.items recorded.now.arrivals.now
+        judging.old.marks.items }
     requires within { (count : ℕ) × (count < most_held)
-        × All (λ h. IsWithin bounds.now.rates (length frames.now) count h)
+        × AreWithin bounds.now.rates (length recorded.now.frames.now) count
         judging.old.held.items }
-    ensures defined { JudgesArrival (λ done. IfOk result done) bounds.now frames.now arrivals.now
-        judging.old judging.new arrived.now moment }
+    ensures defined { JudgesArrival (λ done. IfOk result done) bounds.now recorded.now
+        judging.old judging.new coming.now }
     ensures marks { OnOk result
         (length judging.new.marks.items ≡ length judging.old.marks.items + 1) }
     ensures counted { OnOk result (judging.new.uncertain ≤ judging.old.uncertain + 1) }
     ensures within { (l : Regulation) (by : By) (count : ℕ) → AreRates l by bounds.now.rates →
-        All (λ h. IsWithin bounds.now.rates (length frames.now) count h)
-        judging.old.held.items →
-        OnOk result (All (λ h. IsWithin bounds.now.rates (length frames.now) (count + 1) h)
+        AreWithin bounds.now.rates (length recorded.now.frames.now) count judging.old.held.items →
+        OnOk result (AreWithin bounds.now.rates (length recorded.now.frames.now) (count + 1)
         judging.new.held.items) }
-    ensures known { AreKnown known.new arrivals.now }
-    ensures settled { AreSettled known.new.gaps.items arrivals.now judging.new.marks.items }
+    ensures known { AreKnown known.new recorded.now.arrivals.now }
+    ensures settled { AreSettled known.new.gaps.items recorded.now.arrivals.now
+        judging.new.marks.items }
     ensures refused { OnErr result (IsUnchanged judging.old judging.new) }
 {
+    let arrived = coming.arrived;
+    let frames = recorded.frames;
     match arrived.fault {
         Some(fault) => {
             judging.marks.push(Mark {
@@ -271,18 +266,16 @@ pub(crate) fn judge_with(
         None => {}
     }
     let states = judging.held.as_slice();
-    let tested = test_arrival(&bounds.rates, states, arrived, moment.ns);
-    if let Some(state) = led_alone(bounds, states, frames, arrived, moment) {
+    let tested = test_arrival(&bounds.rates, states, arrived, coming.ns);
+    if let Some(state) = led_alone(bounds, states, frames, coming) {
         go_on_alone(judging, state, tested)?;
         return Ok(Vec::new(alloc));
     }
-    let led = led_from(alloc, bounds, states, frames, arrived, moment)?;
+    let led = led_from(alloc, bounds, states, frames, coming)?;
     let ahead = led.as_slice();
     if has_any(ahead) {
         go_on(judging, alloc, ahead, tested)?;
         return Ok(Vec::new(alloc));
     }
-    go_wrong(
-        judging, alloc, bounds, known, arrivals, frames, arrived, moment, tested,
-    )
+    go_wrong(judging, alloc, bounds, known, recorded, coming)
 }

@@ -19,13 +19,14 @@ ghost use Rattle.afdx_frame.specs.Times.{latest_listed};
 use crate::arrived::Arrived;
 use crate::arriving::judge_with;
 use crate::closing::closed_by;
+use crate::coming::Coming;
 use crate::finding::Finding;
 use crate::first::first_held;
 use crate::forgetting::passed_by_all;
 use crate::growth::Growth;
 use crate::judging::close_with;
-use crate::leading::Moment;
 use crate::limits::{Frame, Limits};
+use crate::recorded::Recorded;
 use crate::spare::Spare;
 use crate::upcoming::{Upcoming, moment_of};
 use std::alloc::{AllocError, Global};
@@ -177,18 +178,24 @@ impl Growth {
         let number = arrived.number;
         let is_open = is_open_by(&self.bounds.limits, arrived, end);
         let ns = arrived.time.saturating_sub(self.last);
-        let moment = Moment { ns, is_open };
         let told = moment_of(&self.bounds.limits, arrived.time);
         let last = last_after(arrived, self.last);
+        let coming = Coming {
+            arrived,
+            ns,
+            is_open,
+        };
+        let recorded = Recorded {
+            arrivals: self.arrivals.as_slice(),
+            frames: self.frames.as_slice(),
+        };
         let found = judge_with(
             &mut self.judging,
             spare.alloc(),
             &self.bounds,
             &mut self.known,
-            self.arrivals.as_slice(),
-            self.frames.as_slice(),
-            arrived,
-            moment,
+            &recorded,
+            &coming,
         )?;
         self.unsure = number_if(self.judging.is_unsure, number);
         self.last = last;
@@ -216,13 +223,16 @@ impl Growth {
         let time = self.frames[self.closed].time;
         let frames = self.frames.as_slice();
         let to = closed_by(frames, self.closed + 1, self.closing, time);
+        let recorded = Recorded {
+            arrivals: self.arrivals.as_slice(),
+            frames: self.frames.as_slice(),
+        };
         let found = close_with(
             &mut self.judging,
             spare.alloc(),
             &self.bounds,
             &mut self.known,
-            self.arrivals.as_slice(),
-            self.frames.as_slice(),
+            &recorded,
             to,
         )?;
         self.closed += 1;

@@ -1,25 +1,18 @@
 //! How far a stream is judged: what a closing changes.
 
-ghost use Rattle.std.specs.Prelude.{◌≡◌, ◌≤◌, ◌+◌, ℕ, false, length, map, nat_le, All, IfOk, OnErr};
+ghost use Rattle.std.specs.Prelude.{◌≡◌, ◌≤◌, ℕ, length, nat_le, IfOk, OnErr};
 ghost use Rattle.std.specs.List.{list_any};
-ghost use Rattle.afdx_conform.specs.Arriving.{JudgesSkipped};
-ghost use Rattle.afdx_conform.specs.Bounds.{AreBounds};
-ghost use Rattle.afdx_conform.specs.Findings.{Judged, closed_to};
-ghost use Rattle.afdx_conform.specs.HeldStates.{AreClosed, IsWithin};
-ghost use Rattle.afdx_conform.specs.Judging.{StandsFor, AreFound};
+ghost use Rattle.afdx_conform.specs.Arriving.{JudgesClosing, JudgesSkipped};
+ghost use Rattle.afdx_conform.specs.HeldStates.{AreWithin};
 ghost use Rattle.afdx_conform.specs.KnownBytes.{AreKnown};
-ghost use Rattle.afdx_conform.specs.Leeway.{reach};
-ghost use Rattle.afdx_conform.specs.Limits.{gone_of};
 ghost use Rattle.afdx_conform.specs.Naming.{AreSettled};
-ghost use Rattle.afdx_conform.specs.Streams.{Terms};
 
-use crate::arrived::Arrived;
 use crate::bounds::Bounds;
 use crate::finding::{Finding, Mark};
 use crate::fronts::{front_of, lead_past};
 use crate::known_bytes::KnownBytes;
-use crate::limits::Frame;
 use crate::naming::unexplained_all;
+use crate::recorded::Recorded;
 use crate::states::{Held, close};
 use std::alloc::{AllocError, Global};
 
@@ -49,41 +42,41 @@ fn skip(
     alloc: Global,
     bounds: &Bounds,
     known: &mut KnownBytes,
-    arrivals: &[Arrived],
-    frames: &[Frame],
+    recorded: &Recorded<'_>,
     closed: usize,
 ) -> Result<Vec<Finding>, AllocError>
-    requires marks { length judging.old.marks.items ≤ length arrivals.now }
-    requires closed { closed ≤ length frames.now }
-    requires known { AreKnown known.old arrivals.now }
-    requires settled { AreSettled known.old.gaps.items arrivals.now judging.old.marks.items }
-    ensures defined { JudgesSkipped (λ done. IfOk result done) bounds.now frames.now arrivals.now
-        judging.old judging.new closed }
+    requires marks { length judging.old.marks.items ≤ length recorded.now.arrivals.now }
+    requires closed { closed ≤ length recorded.now.frames.now }
+    requires known { AreKnown known.old recorded.now.arrivals.now }
+    requires settled { AreSettled known.old.gaps.items recorded.now.arrivals.now
+        judging.old.marks.items }
+    ensures defined { JudgesSkipped (λ done. IfOk result done) bounds.now recorded.now judging.old
+        judging.new closed }
     ensures marks { length judging.new.marks.items ≡ length judging.old.marks.items }
     ensures uncertain { judging.new.uncertain ≡ judging.old.uncertain }
     ensures within { (count : ℕ) →
-        All (λ h. IsWithin bounds.now.rates (length frames.now) count h)
-        judging.old.held.items →
-        All (λ h. IsWithin bounds.now.rates (length frames.now) count h)
-        judging.new.held.items }
-    ensures known { AreKnown known.new arrivals.now }
-    ensures settled { AreSettled known.new.gaps.items arrivals.now judging.new.marks.items }
+        AreWithin bounds.now.rates (length recorded.now.frames.now) count judging.old.held.items →
+        AreWithin bounds.now.rates (length recorded.now.frames.now) count judging.new.held.items }
+    ensures known { AreKnown known.new recorded.now.arrivals.now }
+    ensures settled { AreSettled known.new.gaps.items recorded.now.arrivals.now
+        judging.new.marks.items }
     ensures refused { OnErr result (judging.new ≡ judging.old) }
 {
+    let arrivals = recorded.arrivals;
     let held = judging.held.as_slice();
-    let foremost = front_of(held, frames.len());
+    let foremost = front_of(held, recorded.frames.len());
     let front = foremost.min(closed);
-    let passed = &frames[front..closed];
+    let frames = &recorded.frames[front..closed];
     let lead = lead_past(alloc, judging.held.as_slice(), front, closed)?;
     let each = known.each(arrivals)?;
-    let mut found = Vec::with_capacity(alloc, passed.len())?;
+    let mut found = Vec::with_capacity(alloc, frames.len())?;
+    let passed = Recorded { arrivals, frames };
     unexplained_all(
         &bounds.limits,
         known,
+        &passed,
         each.as_slice(),
-        arrivals,
         &mut judging.marks,
-        passed,
         &mut found,
     );
     judging.held = lead;
@@ -97,34 +90,29 @@ pub(crate) fn close_with(
     alloc: Global,
     bounds: &Bounds,
     known: &mut KnownBytes,
-    arrivals: &[Arrived],
-    frames: &[Frame],
+    recorded: &Recorded<'_>,
     closed: usize,
 ) -> Result<Vec<Finding>, AllocError>
-    requires marks { length judging.old.marks.items ≤ length arrivals.now }
-    requires closed { closed ≤ length frames.now }
-    requires known { AreKnown known.old arrivals.now }
-    requires settled { AreSettled known.old.gaps.items arrivals.now judging.old.marks.items }
-    ensures defined { (z : Terms) (time : ℕ) (j : Judged) → AreBounds z bounds.now →
-        AreClosed time closed (map gone_of frames.now) → j.is_unsure ≡ false →
-        StandsFor bounds.now.rates frames.now arrivals.now j judging.old →
-        IfOk result (λ found.
-        StandsFor bounds.now.rates frames.now arrivals.now (closed_to z time j) judging.new
-        × AreFound (time + reach z.by) found.items j (closed_to z time j)) }
+    requires marks { length judging.old.marks.items ≤ length recorded.now.arrivals.now }
+    requires closed { closed ≤ length recorded.now.frames.now }
+    requires known { AreKnown known.old recorded.now.arrivals.now }
+    requires settled { AreSettled known.old.gaps.items recorded.now.arrivals.now
+        judging.old.marks.items }
+    ensures defined { JudgesClosing (λ done. IfOk result done) bounds.now recorded.now judging.old
+        judging.new closed }
     ensures marks { length judging.new.marks.items ≡ length judging.old.marks.items }
     ensures uncertain { judging.new.uncertain ≡ judging.old.uncertain }
     ensures within { (count : ℕ) →
-        All (λ h. IsWithin bounds.now.rates (length frames.now) count h)
-        judging.old.held.items →
-        All (λ h. IsWithin bounds.now.rates (length frames.now) count h)
-        judging.new.held.items }
-    ensures known { AreKnown known.new arrivals.now }
-    ensures settled { AreSettled known.new.gaps.items arrivals.now judging.new.marks.items }
+        AreWithin bounds.now.rates (length recorded.now.frames.now) count judging.old.held.items →
+        AreWithin bounds.now.rates (length recorded.now.frames.now) count judging.new.held.items }
+    ensures known { AreKnown known.new recorded.now.arrivals.now }
+    ensures settled { AreSettled known.new.gaps.items recorded.now.arrivals.now
+        judging.new.marks.items }
     ensures refused { OnErr result (judging.new ≡ judging.old) }
 {
     if is_one_passed(judging.held.as_slice(), closed) {
         close(&mut judging.held, closed);
         return Ok(Vec::new(alloc));
     }
-    skip(judging, alloc, bounds, known, arrivals, frames, closed)
+    skip(judging, alloc, bounds, known, recorded, closed)
 }

@@ -28,6 +28,15 @@ pub(crate) struct KnownBytes {
     pub(crate) gaps: Vec<Gaps>,
 }
 
+/// Where arrivals are looked for that a frame may be of: `each` are the places that `known` gave.
+/// Those from `from` on came after the arrival that is judged.
+#[derive(Clone, Copy)]
+pub(crate) struct Lookup<'a> {
+    pub known: &'a KnownBytes,
+    pub each: &'a [usize],
+    pub from: usize,
+}
+
 /// Where each of these arrivals stands, by its bytes. Fails only out of memory.
 fn places_of(alloc: Global, arrivals: &[Arrived]) -> Result<ByBytes, AllocError>
     ensures { IfOk result (λ places. AreKept places arrivals.now) }

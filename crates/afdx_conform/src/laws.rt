@@ -19,6 +19,7 @@ ghost use Rattle.afdx_conform.specs.SomeKnown.{SomeIsKnown};
 ghost use Rattle.afdx_conform.specs.Standing.{HoldsOneWindow};
 ghost use Rattle.afdx_conform.specs.Sure.{ExactIsSure};
 ghost use Rattle.afdx_conform.specs.Thinned.{KeptAreEnough};
+ghost use Rattle.afdx_conform.specs.Ways.{WayIsNearer};
 ghost use Rattle.afdx_conform.specs.Worked.{WorkedRows};
 
 /// Once all frames are closed, a state is left exactly where something explains the stream.
@@ -140,4 +141,10 @@ pub fn open_is_least()
 /// frames as came and left in the last window before it.
 pub fn one_window_is_held()
     ensures { HoldsOneWindow }
+{}
+
+/// The level of a way, which each arrival raises, is at least as near its cap as that of each of
+/// its switches, whichever arrivals that charged.
+pub fn way_is_nearer()
+    ensures { WayIsNearer }
 {}

@@ -1,38 +1,30 @@
 //! The states to which an arrival leads.
 
-ghost use Rattle.std.specs.Prelude.{◌≡◌, ◌≤◌, ◌-◌, ◌+◌, ◌++◌, ◌∷◌, [], ℕ, List, length, map, All};
+ghost use Rattle.std.specs.Prelude.{◌≡◌, ◌≤◌, ◌-◌, ◌+◌, ◌++◌, ◌∷◌, [], ℕ, length, map, All};
 ghost use Rattle.std.specs.Prelude.{IfOk, IfSome, IsTrue};
 ghost use Rattle.std.specs.Option.{option_to_list};
 ghost use Rattle.afdx_frame.specs.Regulation.{Regulation};
 ghost use Rattle.afdx_conform.specs.Accounts.{AreRates, AreLevels, AreNear};
-ghost use Rattle.afdx_conform.specs.Arriving.{all_led};
-ghost use Rattle.afdx_conform.specs.Bounds.{AreBounds, HaveToPass};
+ghost use Rattle.afdx_conform.specs.Arriving.{AreAccepted, ComesAt, all_led};
+ghost use Rattle.afdx_conform.specs.Bounds.{AreBounds};
 ghost use Rattle.afdx_conform.specs.Explanations.{link, levels_then};
 ghost use Rattle.afdx_conform.specs.Levels.{has_to_pass, charged};
-ghost use Rattle.afdx_conform.specs.Findings.{aged, as_accepted};
 ghost use Rattle.afdx_conform.specs.HeldStates.{IsSmall, IsWithin, state_of};
 ghost use Rattle.afdx_conform.specs.Leeway.{Leeway as By};
 ghost use Rattle.afdx_conform.specs.Limits.{gone_of};
 ghost use Rattle.afdx_conform.specs.Marks.{IsCharged, arrival_of};
 ghost use Rattle.afdx_conform.specs.Ranges.{most_charge};
 ghost use Rattle.afdx_conform.specs.States.{states_at};
-ghost use Rattle.afdx_conform.specs.Streams.{Gone, Terms, is_open as is_open_by};
+ghost use Rattle.afdx_conform.specs.Streams.{Terms};
 
 use crate::arrived::Arrived;
 use crate::bounds::Bounds;
 use crate::cases::cases_of;
+use crate::coming::Coming;
 use crate::levels::{Levels, Rates};
 use crate::limits::Frame;
 use crate::states::{Held, lead_all};
 use std::alloc::{AllocError, Global};
-
-/// When an arrival comes: so many ns after the one before it. `is_open` says whether what the
-/// switch makes of it may leave unseen.
-#[derive(Clone, Copy, Debug)]
-pub(crate) struct Moment {
-    pub ns: u64,
-    pub is_open: bool,
-}
 
 /// The state that there is, if there is just one.
 fn only(accepted: Option<Held>, refused: Option<Held>) -> Option<Held>
@@ -48,30 +40,24 @@ fn only(accepted: Option<Held>, refused: Option<Held>) -> Option<Held>
 }
 
 /// The state to which an arrival leads from this one, if it leads to one alone.
-fn led_one(
-    bounds: &Bounds,
-    state: Held,
-    frames: &[Frame],
-    arrived: &Arrived,
-    moment: Moment,
-) -> Option<Held>
+fn led_one(bounds: &Bounds, state: Held, frames: &[Frame], coming: &Coming<'_>) -> Option<Held>
     requires { IsSmall bounds.now.rates state }
     ensures defined { (z : Terms) (last : ℕ) →
-        AreBounds z bounds.now → IsCharged z arrived.now → moment.ns ≡ arrived.now.time - last →
-        moment.is_open ≡ is_open_by z (arrival_of arrived.now) →
-        IfSome result (λ h. states_at z (arrival_of arrived.now)
-        (levels_then z state.levels last (arrival_of arrived.now))
+        AreBounds z bounds.now → IsCharged z coming.now.arrived.now → ComesAt z last coming.now →
+        IfSome result (λ h. states_at z (arrival_of coming.now.arrived.now)
+        (levels_then z state.levels last (arrival_of coming.now.arrived.now))
         (state_of (map gone_of frames.now) state) ≡ state_of (map gone_of frames.now) h ∷ []) }
     ensures within { (link : Regulation) (by : By) (count : ℕ) →
         AreRates link by bounds.now.rates →
         IsWithin bounds.now.rates (length frames.now) count state →
         IfSome result (λ h. IsWithin bounds.now.rates (length frames.now) (count + 1) h) }
 {
+    let arrived = coming.arrived;
     let bytes = &arrived.bytes;
     let next = bounds
         .limits
-        .next(arrived.time, bytes, frames, state.passed, moment.is_open);
-    let levels = bounds.rates.later(state.levels, moment.ns);
+        .next(arrived.time, bytes, frames, state.passed, coming.is_open);
+    let levels = bounds.rates.later(state.levels, coming.ns);
     let (accepted, refused) = state.lead(&bounds.rates, levels, arrived.charge, next);
     only(accepted, refused)
 }
@@ -81,16 +67,14 @@ pub(crate) fn led_alone(
     bounds: &Bounds,
     held: &[Held],
     frames: &[Frame],
-    arrived: &Arrived,
-    moment: Moment,
+    coming: &Coming<'_>,
 ) -> Option<Held>
     requires { All (λ h. IsSmall bounds.now.rates h) held.now }
     ensures alone { IfSome result (λ h. length held.now ≡ 1) }
     ensures defined { (z : Terms) (last : ℕ) →
-        AreBounds z bounds.now → IsCharged z arrived.now → moment.ns ≡ arrived.now.time - last →
-        moment.is_open ≡ is_open_by z (arrival_of arrived.now) →
+        AreBounds z bounds.now → IsCharged z coming.now.arrived.now → ComesAt z last coming.now →
         IfSome result (λ h. map (state_of (map gone_of frames.now)) (h ∷ []) ≡ all_led z last
-        (arrival_of arrived.now) (map (state_of (map gone_of frames.now)) held.now)) }
+        (arrival_of coming.now.arrived.now) (map (state_of (map gone_of frames.now)) held.now)) }
     ensures within { (link : Regulation) (by : By) (count : ℕ) →
         AreRates link by bounds.now.rates →
         All (λ h. IsWithin bounds.now.rates (length frames.now) count h) held.now →
@@ -98,7 +82,7 @@ pub(crate) fn led_alone(
         (λ k. IsWithin bounds.now.rates (length frames.now) (count + 1) k) (h ∷ [])) }
 {
     match held {
-        [state] => led_one(bounds, *state, frames, arrived, moment),
+        [state] => led_one(bounds, *state, frames, coming),
         _ => None,
     }
 }
@@ -109,38 +93,26 @@ pub(crate) fn led_from(
     bounds: &Bounds,
     held: &[Held],
     frames: &[Frame],
-    arrived: &Arrived,
-    moment: Moment,
+    coming: &Coming<'_>,
 ) -> Result<Vec<Held>, AllocError>
     requires { All (λ h. IsSmall bounds.now.rates h) held.now }
     ensures defined { (z : Terms) (last : ℕ) →
-        AreBounds z bounds.now → IsCharged z arrived.now → moment.ns ≡ arrived.now.time - last →
-        moment.is_open ≡ is_open_by z (arrival_of arrived.now) →
+        AreBounds z bounds.now → IsCharged z coming.now.arrived.now → ComesAt z last coming.now →
         IfOk result (λ out. map (state_of (map gone_of frames.now)) out.items ≡ all_led z last
-        (arrival_of arrived.now) (map (state_of (map gone_of frames.now)) held.now)) }
+        (arrival_of coming.now.arrived.now) (map (state_of (map gone_of frames.now)) held.now)) }
     ensures within { (link : Regulation) (by : By) (count : ℕ) →
         AreRates link by bounds.now.rates →
         All (λ h. IsWithin bounds.now.rates (length frames.now) count h) held.now →
         IfOk result (λ out.
         All (λ h. IsWithin bounds.now.rates (length frames.now) (count + 1) h) out.items) }
 {
-    let bytes = &arrived.bytes;
-    let limits = &bounds.limits;
-    let cases = cases_of(
-        alloc,
-        limits,
-        held,
-        frames,
-        arrived.time,
-        bytes,
-        moment.is_open,
-    )?;
+    let cases = cases_of(alloc, &bounds.limits, held, frames, coming)?;
     lead_all(
         alloc,
         &bounds.rates,
         cases.as_slice(),
-        moment.ns,
-        arrived.charge,
+        coming.ns,
+        coming.arrived.charge,
     )
 }
 
@@ -170,13 +142,8 @@ pub(crate) fn accept_all(
     ns: u64,
 ) -> Result<Vec<Held>, AllocError>
     requires { All (λ h. AreLevels rates.now h.levels) held.now }
-    ensures defined { (z : Terms) (ys : List Gone) (last : ℕ) →
-        AreRates (link z) z.by rates.now → IsCharged z arrived.now →
-        ns ≡ arrived.now.time - last → All (λ h. AreNear rates.now h.levels) held.now →
-        HaveToPass z last (arrival_of arrived.now) held.now →
-        IfOk result (λ out. map (state_of ys) out.items
-        ≡ as_accepted z (arrival_of arrived.now)
-        (aged z last (arrival_of arrived.now) (map (state_of ys) held.now))) }
+    ensures defined { AreAccepted (λ done. IfOk result (λ out. done out.items)) rates.now
+        arrived.now ns held.now }
     ensures within { (link : Regulation) (by : By) (frames count : ℕ) →
         AreRates link by rates.now →
         All (λ h. IsWithin rates.now frames count h) held.now →

@@ -1,7 +1,7 @@
 //! Whether a recorded switch did what the rules say: laws over definitions, and the steps by which
 //! the explanations of what was recorded follow it.
 //!
-//! A stream is one link, on one side, at one output port. Its tests are in `afdx_part_tests`.
+//! A stream is one link, on one side, at one output port. Its tests are in `afdx_test_parts`.
 #![tactic(auto)]
 
 mod arrived;
@@ -11,6 +11,7 @@ mod by_bytes;
 mod cases;
 mod checked_bytes;
 mod closing;
+mod coming;
 mod counts;
 mod deciding;
 mod deviate;
@@ -32,6 +33,7 @@ mod levels;
 mod limits;
 mod naming;
 mod places;
+mod recorded;
 mod spare;
 mod states;
 mod streaming;

@@ -22,6 +22,7 @@ use crate::gaps::Gaps;
 use crate::known_bytes::KnownBytes;
 use crate::limits::{Frame, Limits};
 use crate::places::no_less;
+use crate::recorded::Recorded;
 use afdx_frame::{GREATEST_FRAME, LEAST_FRAME};
 use afdx_police::Reason;
 
@@ -207,30 +208,30 @@ pub(crate) fn unexplained(
 pub(crate) fn unexplained_all(
     limits: &Limits,
     known: &mut KnownBytes,
+    recorded: &Recorded<'_>,
     each: &[usize],
-    arrivals: &[Arrived],
     marks: &mut Vec<Mark>,
-    frames: &[Frame],
     found: &mut Vec<Finding>,
 )
-    requires marks { length marks.old.items ≤ length arrivals.now }
-    requires known { AreKnown known.old arrivals.now }
-    requires each { AreEach known.old arrivals.now each.now }
-    requires settled { AreSettled known.old.gaps.items arrivals.now marks.old.items }
+    requires marks { length marks.old.items ≤ length recorded.now.arrivals.now }
+    requires known { AreKnown known.old recorded.now.arrivals.now }
+    requires each { AreEach known.old recorded.now.arrivals.now each.now }
+    requires settled { AreSettled known.old.gaps.items recorded.now.arrivals.now marks.old.items }
     requires none { found.old.items ≡ [] }
-    requires room { length frames.now ≤ vec_capacity found.old }
+    requires room { length recorded.now.frames.now ≤ vec_capacity found.old }
     ensures found { (z : Terms) (time : ℕ) (j : Judged) → AreLimits z limits.now →
-        j.arrivals ≡ marked_all arrivals.now marks.old.items →
-        told time found.new.items (marked_all arrivals.now marks.new.items) j
-        ≡ unexplained_all z time (map gone_of frames.now) j }
-    ensures count { vec_len found.new ≡ length frames.now }
+        j.arrivals ≡ marked_all recorded.now.arrivals.now marks.old.items →
+        told time found.new.items (marked_all recorded.now.arrivals.now marks.new.items) j
+        ≡ unexplained_all z time (map gone_of recorded.now.frames.now) j }
+    ensures count { vec_len found.new ≡ length recorded.now.frames.now }
     ensures capacity { vec_capacity found.new ≡ vec_capacity found.old }
     ensures length { length marks.new.items ≡ length marks.old.items }
     ensures marks_capacity { vec_capacity marks.new ≡ vec_capacity marks.old }
-    ensures known { AreKnown known.new arrivals.now }
-    ensures settled { AreSettled known.new.gaps.items arrivals.now marks.new.items }
+    ensures known { AreKnown known.new recorded.now.arrivals.now }
+    ensures settled { AreSettled known.new.gaps.items recorded.now.arrivals.now marks.new.items }
 {
-    for frame in frames {
+    let arrivals = recorded.arrivals;
+    for frame in recorded.frames {
         let judged = marks.as_slice();
         let gaps = known.settle(limits, arrivals, judged, frame);
         let places = known.places(limits, arrivals, frame, each);

@@ -1,6 +1,6 @@
 //! The end systems of a network: what each makes of the frames that the switches hand over to it.
 //!
-//! Its tests are in `afdx_run_tests`.
+//! Its tests are in `afdx_test_runs`.
 #![tactic(auto)]
 
 mod end_system;

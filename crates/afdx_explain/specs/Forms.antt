@@ -2,7 +2,7 @@
 use Rattle.std.specs.Prelude.{ℕ, ◌==◌, Bool, true, false, ◌&&◌, List, [], ◌∷◌, length, not, codes, Option, Some, None, if◌then◌else◌}
 use Rattle.std.specs.List.{slice_split, list_any}
 use Rattle.std.specs.Str.{bytes_eq}
-use Rattle.afdx_lists.specs.Splitting.{all_digits, between_spaces}
+use Rattle.afdx_input_lines.specs.Splitting.{all_digits, between_spaces}
 
 -- `|`
 abbrev pub bar : ℕ

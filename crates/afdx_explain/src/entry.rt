@@ -8,7 +8,7 @@ ghost use Rattle.afdx_explain.specs.Forms.{named_among, named_row};
 
 use crate::forms::{has_form, has_name};
 use afdx_config::Key;
-use afdx_lists::first_field;
+use afdx_input_lines::first_field;
 
 /// The forms of a line, each on a line of its own, and what such a line means: one or more lines of
 /// text.

@@ -15,10 +15,10 @@ use crate::lines::LINES;
 use afdx_admit::{ADMISSION, CASCADE_ADMISSION};
 use afdx_config::CONFIG_FAULTS;
 use afdx_frame::{IP_FAULTS, MAC_FAULTS};
-use afdx_lists::{RECORDING_FAULTS, RUN_FAULTS};
+use afdx_input_lines::{RECORDING_FAULTS, RUN_FAULTS};
+use afdx_input_sources::SKIPPED;
 use afdx_police::REASONS;
 use afdx_receive::DROP_REASONS;
-use afdx_recorded::SKIPPED;
 use afdx_send::SEND_FAULTS;
 use afdx_text::STRANGE_REASONS;
 

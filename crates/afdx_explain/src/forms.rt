@@ -3,10 +3,10 @@
 ghost use Rattle.std.specs.Prelude.{◌≡◌};
 ghost use Rattle.std.specs.List.{list_any};
 ghost use Rattle.std.specs.Str.{bytes_eq};
-ghost use Rattle.afdx_lists.specs.Splitting.{all_digits};
+ghost use Rattle.afdx_input_lines.specs.Splitting.{all_digits};
 ghost use Rattle.afdx_explain.specs.Forms.{between_bars, has_form, has_name, stands_for};
 
-use afdx_lists::first_field;
+use afdx_input_lines::first_field;
 
 /// Whether all bytes are digits.
 fn are_digits(mut word: &[u8]) -> bool

@@ -3,7 +3,7 @@
 use crate::entry::Entry;
 
 /// What the lines of a kind have in common.
-pub const KINDS: [Entry; 23] = [
+pub const KINDS: [Entry; 24] = [
     (
         "list * n",
         "\
@@ -104,6 +104,14 @@ configuration ask for 'config NoSuchSystem'.",
         "\
 A list and a recording have a fault of this name. Here is that of a list; of a recording ask for
 'recording TimeBack' or 'recording TimeTooLarge'.",
+    ),
+    (
+        "\
+no apart n n
+no apart * n n",
+        "\
+With its least values the network is admitted, but the copies of a frame can't be sent so far apart:
+no configuration is written.",
     ),
     (
         "\

@@ -1,6 +1,6 @@
 //! What the lines of the program mean, in plain words.
 //!
-//! Its tests are in `afdx_part_tests`.
+//! Its tests are in `afdx_test_parts`.
 #![tactic(auto)]
 
 mod conform_lines;

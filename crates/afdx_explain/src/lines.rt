@@ -3,7 +3,7 @@
 use crate::entry::Entry;
 
 /// Lines of the output.
-pub const LINES: [Entry; 18] = [
+pub const LINES: [Entry; 20] = [
     (
         "\
 accept
@@ -113,6 +113,30 @@ CONFIG is less.
 Of several switches the switch's name stands before PORT.
 Where so long is too long, send less to that port, or give its system or cable a faster line; the
 lines m of 'check --margins' say what fills the port.",
+    ),
+    (
+        "\
+apart
+apart n n
+apart n -",
+        "\
+apart vl ns: with --margins, of an admitted network: by so many ns may one copy of a frame of the
+link vl be sent later than the other, on the two networks; then each system that gets it takes the
+later one for a copy. - where no system gets the link.
+It is the least, over these systems, of what the skew leaves of the latencies on the way there
+beyond the time that the link's shortest frame takes at least, lmin and 8 bytes more on each line.
+0 is not what an end system keeps, since it hands the copies over one after the other: 'solve
+--apart NS' makes room for more.",
+    ),
+    (
+        "\
+no apart n n
+no apart * n n",
+        "\
+no apart vl ns: 'solve' --apart asks for more than the tables can leave: the copies of a frame of
+the link vl may be sent ns apart at most, though its skew is as great as it may be, or is kept.
+Of several switches the name of the one where it goes to a system stands before vl. Ask for less,
+don't keep skew, or take latency off its way: less traffic to its ports, faster lines.",
     ),
     (
         "ok",

@@ -10,13 +10,15 @@ pub false_lines-nil : {F : Type 0} → false_lines {F = F} [] ≡ []
 unfolding false_lines
 false_lines-nil = refl
 
-pub false_lines-append : {F : Type 0} (xs ys : List (Line F)) → false_lines (xs ++ ys) ≡ false_lines xs ++ false_lines ys
+pub false_lines-append : {F : Type 0} (xs ys : List (Line F))
+    → false_lines (xs ++ ys) ≡ false_lines xs ++ false_lines ys
 unfolding false_lines
 false_lines-append xs ys =
     ap (map (λ l. l.fault)) (filter-append (λ l. not l.holds) xs ys)
     ∙ map-append (λ l. l.fault) (filter (λ l. not l.holds) xs) (filter (λ l. not l.holds) ys)
 
-pub false_lines-holds : {F : Type 0} (l : Line F) (ls : List (Line F)) → l.holds ≡ true → false_lines (l ∷ ls) ≡ false_lines ls
+pub false_lines-holds : {F : Type 0} (l : Line F) (ls : List (Line F)) → l.holds ≡ true
+    → false_lines (l ∷ ls) ≡ false_lines ls
 unfolding false_lines
 false_lines-holds l ls h =
     ap (λ b. map (λ k. k.fault) (cond (not b) (l ∷ filter (λ k. not k.holds) ls) (filter (λ k. not k.holds) ls))) h

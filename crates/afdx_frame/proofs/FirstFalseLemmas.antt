@@ -7,19 +7,17 @@ use Rattle.std.proofs.Common.{List, [], ◌∷◌, ◌++◌, Option, Some, None,
 use Rattle.std.proofs.Common.{sym, ap, ◌∙◌, arith}
 use Rattle.afdx_frame.specs.Lines.{Line, first_false, each_from}
 
-pub first_false-skip : {F : Type 0} (l : Line F) (ls : List (Line F)) → l.holds ≡ true → first_false (l ∷ ls) ≡ first_false ls
+pub first_false-skip : {F : Type 0} (l : Line F) (ls : List (Line F)) → l.holds ≡ true
+    → first_false (l ∷ ls) ≡ first_false ls
 unfolding first_false
 first_false-skip l ls h = ap (λ b. if b then first_false ls else Some l.fault) h
-
-pub first_false-stop : {F : Type 0} (l : Line F) (ls : List (Line F)) → l.holds ≡ false → first_false (l ∷ ls) ≡ Some l.fault
-unfolding first_false
-first_false-stop l ls h = ap (λ b. if b then first_false ls else Some l.fault) h
 
 pub first_false-nil : {F : Type 0} → first_false {F = F} [] ≡ None
 unfolding first_false
 first_false-nil = refl
 
-pub first_false-append : {F : Type 0} (xs ys : List (Line F)) → first_false xs ≡ None → first_false (xs ++ ys) ≡ first_false ys
+pub first_false-append : {F : Type 0} (xs ys : List (Line F)) → first_false xs ≡ None
+    → first_false (xs ++ ys) ≡ first_false ys
 unfolding first_false
 first_false-append [] ys h = refl
 first_false-append (x ∷ xs) ys h = by x.holds refl h (first_false-append xs ys)
@@ -103,17 +101,20 @@ cons_holds l ls h = by l.holds refl h
     by true e h = record { one = e; rest = h }
     by false e h = absurd (cc h)
 
-pub holds_cons : {F : Type 0} (l : Line F) (ls : List (Line F)) → l.holds ≡ true → first_false ls ≡ None → first_false (l ∷ ls) ≡ None
+pub holds_cons : {F : Type 0} (l : Line F) (ls : List (Line F)) → l.holds ≡ true → first_false ls ≡ None
+    → first_false (l ∷ ls) ≡ None
 holds_cons l ls one rest = first_false-skip l ls one ∙ rest
 
-pub append_holds : {F : Type 0} (xs ys : List (Line F)) → first_false (xs ++ ys) ≡ None → (first_false xs ≡ None) × (first_false ys ≡ None)
+pub append_holds : {F : Type 0} (xs ys : List (Line F)) → first_false (xs ++ ys) ≡ None
+    → (first_false xs ≡ None) × (first_false ys ≡ None)
 append_holds [] ys h = (first_false-nil, h)
 append_holds (x ∷ xs) ys h =
     let both = cons_holds x (xs ++ ys) h in
     let later = append_holds xs ys both.rest in
     (holds_cons x xs both.one later.0, later.1)
 
-pub holds_append : {F : Type 0} (xs ys : List (Line F)) → first_false xs ≡ None → first_false ys ≡ None → first_false (xs ++ ys) ≡ None
+pub holds_append : {F : Type 0} (xs ys : List (Line F)) → first_false xs ≡ None → first_false ys ≡ None
+    → first_false (xs ++ ys) ≡ None
 holds_append xs ys front back = first_false-append xs ys front ∙ back
 
 pub each_holds : {F : Type 0} (f : ℕ → List (Line F)) (from count : ℕ) → first_false (each_from f from count) ≡ None

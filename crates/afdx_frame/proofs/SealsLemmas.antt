@@ -9,7 +9,7 @@ use Rattle.std.proofs.lemmas.List.{length-drop}
 use Rattle.afdx_frame.specs.declared.seals.Seal.{Seal}
 use Rattle.afdx_frame.specs.declared.seals.Seal.TheVariants.{Right, Wrong, Missing}
 use Rattle.afdx_frame.specs.Layout.{IsTo, IsFrame, NoLink}
-use Rattle.afdx_frame.specs.Sealing.{AreBytes, is_sealed, sealed, sealed_wrongly, sequence_of}
+use Rattle.afdx_frame.specs.Sealing.{AreBytes, is_sealed, sealed, sequence_of}
 use Rattle.afdx_frame.specs.Seals.{whole, seal_length, IsSealedAs}
 use Rattle.afdx_frame.proofs.BuiltLemmas.{AreBytes-append, check}
 use Rattle.afdx_frame.proofs.LayoutLemmas.{is_frame}
@@ -18,10 +18,6 @@ use Rattle.afdx_frame.proofs.SealingLemmas.{is_sealed-decides, is_sealed-long, i
 pub whole-right : (message : List ℕ) → whole Right message ≡ sealed message
 unfolding whole
 whole-right message = refl
-
-pub whole-wrong : (message : List ℕ) → whole Wrong message ≡ sealed_wrongly message
-unfolding whole
-whole-wrong message = refl
 
 pub whole-missing : (message : List ℕ) → whole Missing message ≡ message
 unfolding whole

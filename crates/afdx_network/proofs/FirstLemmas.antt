@@ -11,7 +11,7 @@ use Rattle.afdx_port.specs.Schedule.{Turn, AreTurns}
 use Rattle.afdx_port.specs.ScheduleOf.{AreInOrder as AreTimed}
 use Rattle.afdx_port.proofs.ScheduleLemmas.{schedule_of_is}
 use Rattle.afdx_port.proofs.TurnLemmas.{next_of, schedule_begins, same_schedule}
-use Rattle.afdx_bounds.proofs.TableLemmas.{byte-time}
+use Rattle.afdx_law_bounds.proofs.TableLemmas.{byte-time}
 use Rattle.afdx_switch.specs.HeldFrames.{HeldFrame}
 use Rattle.afdx_switch.specs.Switching as switch
 use Rattle.afdx_switch.specs.Switching.{SwitchHistory, IsDone, taken_at}

@@ -214,7 +214,8 @@ are-events t arrivals = record {
 }
 
 -- those that pass a test
-pub filter-own : (p : Event → Bool) (e : Event) (es : List Event) → IsAmong e (filter p es) → IsAmong e es × IsTrue (p e)
+pub filter-own : (p : Event → Bool) (e : Event) (es : List Event) → IsAmong e (filter p es)
+    → IsAmong e es × IsTrue (p e)
 filter-own p e [] h = absurd h
 filter-own p e (x ∷ es) h = by (p x) refl h (filter-own p e es)
   where

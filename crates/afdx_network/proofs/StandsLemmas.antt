@@ -14,7 +14,7 @@ use Rattle.afdx_port.specs.declared.left.Due.{Due}
 use Rattle.afdx_port.specs.Due.{given_at, IsBy, IsAfter, order_of}
 use Rattle.afdx_port.specs.History.{due_at}
 use Rattle.afdx_port.specs.Schedule.{Turn, IsNext}
-use Rattle.afdx_bounds.proofs.TableLemmas.{byte-time}
+use Rattle.afdx_law_bounds.proofs.TableLemmas.{byte-time}
 use Rattle.afdx_switch.specs.HeldFrames.{HeldFrame}
 use Rattle.afdx_switch.specs.Switching as switch
 use Rattle.afdx_switch.specs.Switching.{SwitchHistory, PortTurn, IsNextAt, IsNextOf, IsDue, IsDone}

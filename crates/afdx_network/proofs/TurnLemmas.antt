@@ -4,7 +4,7 @@ use Rattle.std.proofs.Common.{◌∙◌, subst, Bool, true, false, IsTrue, arith
 use Rattle.afdx_frame.specs.declared.link.Side.{Side}
 use Rattle.afdx_port.specs.Schedule.{Entry, Turn, lasting, IsNext, AreTurns}
 use Rattle.afdx_port.proofs.TurnLemmas.{same_next}
-use Rattle.afdx_bounds.proofs.AdmittedLemmas.{product-positive}
+use Rattle.afdx_law_bounds.proofs.AdmittedLemmas.{product-positive}
 use Rattle.afdx_switch.specs.HeldFrames.{HeldFrame}
 use Rattle.afdx_network.specs.Events.{Event, Left, departure_with, departures_of}
 use Rattle.afdx_network.specs.Order.{phase_of, side_number, is_below, is_before, IsAmong}

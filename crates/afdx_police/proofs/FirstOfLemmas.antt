@@ -30,12 +30,6 @@ first_of-some xs r more =
     let some = option_or-some (first_of xs) r in
     (some.0, first_of-append xs ((true, r) ∷ more) ∙ some.1)
 
--- what follows a true test isn't looked at
-pub first_of-same : {R : Type 0} (xs : List (Bool × R)) (r : R) (more less : List (Bool × R))
-    → first_of (xs ++ (true, r) ∷ more) ≡ first_of (xs ++ (true, r) ∷ less)
-first_of-same xs r more less =
-    first_of-append xs ((true, r) ∷ more) ∙ sym (first_of-append xs ((true, r) ∷ less))
-
 -- what passes for the answer of each test passes for that of the first one
 pub first_of-each : {R : Type 0} (p : R → Bool) (xs : List (Bool × R)) (r : R)
     → list_all (λ x. p x.1) xs ≡ true → first_of xs ≡ Some r → p r ≡ true

@@ -6,6 +6,8 @@ pub mod FrameLemmas
 pub mod PolicerLemmas
 pub mod ShapeLemmas
 pub mod StreamLemmas
+pub mod SpacedLemmas
+pub mod SpacingLemmas
 pub mod VerdictLemmas
 pub mod WindowLemmas
 pub mod WordLemmas

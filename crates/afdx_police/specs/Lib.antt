@@ -11,6 +11,8 @@ pub mod Rule
 pub mod RuleOf
 pub mod Shape
 pub mod Stream
+pub mod Spaced
+pub mod Spacing
 pub mod Verdicts
 pub mod Window
 pub mod Words

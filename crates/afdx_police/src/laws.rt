@@ -6,6 +6,8 @@ ghost use Rattle.afdx_police.specs.Laws.{FaultsChangeNothing, SoundHasNoFault, S
 ghost use Rattle.afdx_police.specs.Laws.{VerdictsDecide, NoFrameIsRefused, FaultsKeepTheirWords};
 ghost use Rattle.afdx_police.specs.Delayed.{DelayedAreAccepted, RoomIsNeeded};
 ghost use Rattle.afdx_police.specs.Early.{LeastWaitIsFill};
+ghost use Rattle.afdx_police.specs.Spacing.{RightHasRoom, RoomIsGaps};
+ghost use Rattle.afdx_police.specs.Spaced.{RegularIsSpaced, SpacedIsAccepted, SpacedIsRegular};
 ghost use Rattle.afdx_police.specs.Stream.{RegularIsAccepted};
 ghost use Rattle.afdx_police.specs.Words.{TheWords};
 
@@ -90,4 +92,21 @@ pub fn verdicts_decide()
 #[tactic(auto, unfolding(crate::specs::Words::words))]
 pub fn words_are()
     ensures { TheWords }
+{}
+
+/// A stream whose frames come so many gaps behind each other, but for the jitter, is accepted
+/// whole. One that was released a gap or more apart is such a stream; and each such stream was
+/// released so, if time began as long before it as the jitter is.
+pub fn spaced_is_accepted()
+    ensures accepted { SpacedIsAccepted }
+    ensures regular { RegularIsSpaced }
+    ensures moments { SpacedIsRegular }
+{}
+
+/// A sender's level has room for each frame exactly where each comes as many gaps behind each one
+/// before it as stand between, but for the jitter and by how much stamps and clocks may be off. A
+/// right sender's frames always have room.
+pub fn room_is_gaps()
+    ensures exact { RoomIsGaps }
+    ensures right { RightHasRoom }
 {}

@@ -1,6 +1,6 @@
 //! Policing of a virtual link: what its frames have to look like, and how much it may send.
 //!
-//! Its tests are in `afdx_part_tests`.
+//! Its tests are in `afdx_test_parts`.
 #![tactic(auto)]
 
 mod account;

@@ -34,10 +34,6 @@ given_later byte_ns bytes t false rate =
     let some : 1 * 1 ≤ (bytes + 20) * byte_ns = mul-le-mul a rate in
     omega arith
 
-pub none_from_test : {Y : Type 0} (o : Option Y) (b : Bool) → b ≡ is_some o → b ≡ false → o ≡ None
-none_from_test None b e f = refl
-none_from_test (Some y) b e f = cc
-
 pub busy_from_test : {Y : Type 0} (o : Option Y) (b : Bool) → b ≡ is_some o → b ≡ true → o ≡ None
     → ⊥
 busy_from_test None b e f none = cc

@@ -1,6 +1,6 @@
 //! An output port: two queues of frames, high before low, that share a buffer and a line.
 //!
-//! Its tests are in `afdx_part_tests`.
+//! Its tests are in `afdx_test_parts`.
 #![tactic(auto)]
 
 mod has_length;

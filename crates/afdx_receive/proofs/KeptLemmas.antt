@@ -149,7 +149,8 @@ module _ (kept : Kept) (is : IsKept kept) (vl : ℕ) (memory : LinkMemory) (know
       at true e =
           let here : place_in with_link.places q ≡ Some (length kept.memories) =
           ap (place_in with_link.places) (sym (eqb-true vl q e)) ∙ placed_here in
-          ap (option_and_then (λ place. slice_get with_link.memories place)) here ∙ slice_get-push_last kept.memories memory
+          ap (option_and_then (λ place. slice_get with_link.memories place)) here
+          ∙ slice_get-push_last kept.memories memory
       at false e =
           ap (option_and_then (λ place. slice_get with_link.memories place))
           (placed_there q (λ same. eqb-false vl q e (sym same)))

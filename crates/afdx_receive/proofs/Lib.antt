@@ -1,4 +1,5 @@
 pub mod AnswerLemmas
+pub mod ApartLemmas
 pub mod CopyLemmas
 pub mod DeliveryLemmas
 pub mod KeptLemmas

@@ -7,7 +7,7 @@ use Rattle.std.specs.Option.{option_copied, option_flatten}
 use Rattle.std.specs.Slice.{IsItemAt}
 use Rattle.std.proofs.lemmas.Bool.{cases_eq, eqb-true, eqb-false}
 use Rattle.std.proofs.lemmas.Option.{slice_get_read, unwrap_or-slice_get}
-use Rattle.std.proofs.Math.ListN.{get_or, length-set}
+use Rattle.std.proofs.Math.ListN.{get_or}
 use Rattle.std.proofs.lemmas.Option.{same_Some}
 use Rattle.afdx_frame.proofs.ListLemmas.{slice_get-set_here, slice_get-set_there}
 use Rattle.afdx_receive.specs.Places.{Paged, IsPaged, found_at, number_in, slot_in, place_in}
@@ -78,15 +78,6 @@ module _ (paged : Paged) (is : IsPaged paged) where
     abbrev with_place : Paged
     with_place = record paged { slots = slice_set paged.slots slot (Some place) }
 
-    pub placed : IsPaged with_place
-    placed = record {
-      count = is.count;
-      whole = length-set paged.slots slot (Some place) ∙ is.whole;
-      within = λ page number e. subst (λ n. 16 * number + 16 ≤ n) (sym (length-set paged.slots slot (Some place)))
-          (is.within page number e);
-      own = is.own;
-    }
-
     pub place_updates : (q : ℕ) → place_in with_place q ≡ cond (nat_eq vl q) (Some place) (place_in paged q)
     unfolding place_in
     place_updates q = at (nat_eq vl q) refl
@@ -110,14 +101,6 @@ module _ (paged : Paged) (is : IsPaged paged) where
   -- ---- room for more pages
 
   module _ (pages : List (Option ℕ)) (same : (page : ℕ) → found_at pages page ≡ number_in paged page) where
-    pub longer : IsPaged (record paged { pages = pages })
-    longer = record {
-      count = is.count;
-      whole = is.whole;
-      within = λ page number e. is.within page number (sym (same page) ∙ e);
-      own = λ a b number e f. is.own a b number (sym (same a) ∙ e) (sym (same b) ∙ f);
-    }
-
     pub longer_same : (q : ℕ) → place_in (record paged { pages = pages }) q ≡ place_in paged q
     unfolding place_in
     longer_same q = ap (λ o. option_and_then (λ slot. option_flatten (slice_get paged.slots slot))

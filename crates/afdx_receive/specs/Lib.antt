@@ -12,5 +12,6 @@ pub mod StandsFor
 pub mod TwoStreams
 pub mod Delivery
 pub mod Copies
+pub mod CopiesApart
 pub mod Laws
 pub mod Words

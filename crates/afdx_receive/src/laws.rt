@@ -7,6 +7,7 @@ ghost use Rattle.afdx_receive.specs.TwoStreams.{StandsByPlace, FirstCopiesWin};
 ghost use Rattle.afdx_receive.specs.TwoStreams.{FirstCopiesAreCounted, SentIsWonOnce};
 ghost use Rattle.afdx_receive.specs.Delivery.{SentIsDeliveredOnce};
 ghost use Rattle.afdx_receive.specs.Copies.{StreamIsDeliveredOnce};
+ghost use Rattle.afdx_receive.specs.CopiesApart.{ApartIsDeliveredOnce, SidesAreDeliveredOnce};
 ghost use Rattle.afdx_receive.specs.Words.{TheOwnWords};
 
 use afdx_frame::laws::{
@@ -75,6 +76,15 @@ pub fn stream_is_delivered_once()
 {
     built_is_computed();
 }
+
+/// Of two networks that send at times of their own, the copies of each frame so near each other
+/// that one comes at most the skew after the other, exactly the messages to an open UDP port are
+/// delivered, each once and in order. So it is where on each side the first frames came, as they
+/// are recorded there, and all by time.
+pub fn copies_apart_are_delivered_once()
+    ensures all { ApartIsDeliveredOnce }
+    ensures sides { SidesAreDeliveredOnce }
+{}
 
 /// The words of a receiver's own reasons are those of the formats.
 #[tactic(auto, unfolding(crate::specs::Words::own_words))]

@@ -1,7 +1,7 @@
 //! What an end system receives on its virtual links (ARINC 664 Part 7): integrity checking,
 //! redundancy management, and the datagram of each frame that wins.
 //!
-//! Its tests are in `afdx_run_tests`.
+//! Its tests are in `afdx_test_runs`.
 #![tactic(auto)]
 
 pub mod laws;

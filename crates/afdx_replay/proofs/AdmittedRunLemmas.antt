@@ -8,24 +8,24 @@ use Rattle.afdx_config.specs.Admission.{IsAdmitted}
 use Rattle.afdx_config.specs.Lawful.{IsLawfulSwitch}
 use Rattle.afdx_config.specs.Rows.{Rows}
 use Rattle.afdx_police.specs.Arrival.{Arrival}
-use Rattle.afdx_bounds.specs.Outputs.{AreTimed}
+use Rattle.afdx_law_bounds.specs.Outputs.{AreTimed}
 use Rattle.afdx_switch.specs.Admitted.{IsAdmittedRun}
-use Rattle.afdx_lists.specs.Calls.{AppendsFront}
-use Rattle.afdx_lists.specs.FrameLines.{ListedFrame}
-use Rattle.afdx_lists.proofs.FrameLemmas.{line_says-later}
-use Rattle.afdx_lists.specs.Lines.{lines_of}
-use Rattle.afdx_lists.specs.declared.fault.LineFault.{LineFault}
-use Rattle.afdx_lists.specs.declared.fault.RunFault.{RunFault}
-use Rattle.afdx_engine.specs.Lists.{items_of, latest_in, with_item}
-use Rattle.afdx_engine.specs.Listed.{frames, arrival_at, said_after, arrivals_of}
+use Rattle.afdx_input_lines.specs.Calls.{AppendsFront}
+use Rattle.afdx_input_lines.specs.FrameLines.{ListedFrame}
+use Rattle.afdx_input_lines.proofs.FrameLemmas.{line_says-later}
+use Rattle.afdx_input_lines.specs.Lines.{lines_of}
+use Rattle.afdx_input_lines.specs.declared.fault.LineFault.{LineFault}
+use Rattle.afdx_input_lines.specs.declared.fault.RunFault.{RunFault}
+use Rattle.afdx_input_sources.specs.Lists.{items_of, latest_in, with_item}
+use Rattle.afdx_input_sources.specs.Listed.{frames, arrival_at, said_after, arrivals_of}
 use Rattle.afdx_replay.specs.replaying.Promises.{IsListed, ArrivalsAreListed}
-use Rattle.afdx_promises.specs.Lines.{IsIn}
+use Rattle.afdx_law_promises.specs.Lines.{IsIn}
 use Rattle.afdx_replay.specs.replaying.PromisedRun.{IsAsPromised, WritesPromisedSoFar, WritesPromisedSome, PromisedAnswers}
 use Rattle.afdx_network.specs.Order.{events_of}
 use Rattle.afdx_replay.specs.replaying.Text.{replay_text, replay_counts}
 use Rattle.afdx_replay.specs.replaying.Replayed.{WritesSoFar, WritesSome, Answers}
-use Rattle.afdx_commands.specs.declared.summary.Summary.{Summary}
-use Rattle.afdx_engine.proofs.RunLemmas.{stops-more}
+use Rattle.afdx_command_tables.specs.declared.summary.Summary.{Summary}
+use Rattle.afdx_input_sources.proofs.RunLemmas.{stops-more}
 use Rattle.afdx_replay.proofs.PromisedLemmas.{replay-promised, so-far-told, none-counted}
 
 -- ---- the times of a list's arrivals don't decrease

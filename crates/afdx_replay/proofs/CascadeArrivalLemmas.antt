@@ -9,11 +9,11 @@ use Rattle.afdx_cascade.specs.SwitchEvents.{SwitchEvent, came_to}
 use Rattle.afdx_cascade.specs.Turning.{IsWait}
 use Rattle.afdx_cascade.specs.declared.told.Brought.{Brought}
 use Rattle.afdx_config.specs.Switches.{NamedRows}
-use Rattle.afdx_commands.specs.declared.summary.Summary.{Summary}
+use Rattle.afdx_command_tables.specs.declared.summary.Summary.{Summary}
 use Rattle.afdx_end_systems.specs.declared.systems.Systems.{Systems}
 use Rattle.afdx_frame.specs.declared.link.Side.{Side}
-use Rattle.afdx_lists.specs.Calls.{AppendsFront}
-use Rattle.afdx_lists.specs.declared.watched.Watched.{Watched}
+use Rattle.afdx_input_lines.specs.Calls.{AppendsFront}
+use Rattle.afdx_input_lines.specs.declared.watched.Watched.{Watched}
 use Rattle.afdx_network.specs.Events.{Came, Left, Departure, admission_after}
 use Rattle.afdx_network.specs.Network as network
 use Rattle.afdx_police.specs.Verdicts.{is_over_rate}
@@ -24,7 +24,7 @@ use Rattle.afdx_text.specs.OutLines.{place_text, verdict_line}
 use Rattle.afdx_text.specs.Telling.{Tells}
 use Rattle.afdx_replay.specs.cascading.Early.{HearsEarly, IsLineOn, TellsEarly, early_line_at}
 use Rattle.afdx_replay.specs.cascading.Text.{event_lines}
-use Rattle.afdx_inputs.specs.ListText.{switch_name}
+use Rattle.afdx_input_runs.specs.ListText.{switch_name}
 use Rattle.afdx_replay.specs.cascading.Told.{SystemsAre, TellsOne}
 use Rattle.afdx_replay.specs.replaying.Replayed.{Known}
 use Rattle.afdx_replay.specs.replaying.Text.{loss_lines, with_admission}

@@ -11,12 +11,12 @@ use Rattle.afdx_cascade.specs.declared.cascade.Cascade.{Cascade}
 use Rattle.afdx_cascade.specs.declared.told.Brought.{Brought}
 use Rattle.afdx_cascade.proofs.MoreLemmas.{at-same}
 use Rattle.afdx_config.specs.Switches.{NamedRows}
-use Rattle.afdx_engine.specs.Engine.{Item}
-use Rattle.afdx_engine.specs.Items.{CanFollow, most_frames}
+use Rattle.afdx_input_sources.specs.Engine.{Item}
+use Rattle.afdx_input_sources.specs.Items.{CanFollow, most_frames}
 use Rattle.afdx_frame.proofs.ListLemmas.{slice_get-within}
-use Rattle.afdx_lists.specs.Calls.{AppendsFront}
-use Rattle.afdx_lists.specs.declared.frame_line.Heading.{Heading}
-use Rattle.afdx_lists.specs.declared.watched.Watched.{Watched}
+use Rattle.afdx_input_lines.specs.Calls.{AppendsFront}
+use Rattle.afdx_input_lines.specs.declared.frame_line.Heading.{Heading}
+use Rattle.afdx_input_lines.specs.declared.watched.Watched.{Watched}
 use Rattle.afdx_network.specs.Events.{admission_after, arrivals_in}
 use Rattle.afdx_network.specs.Order.{IsAmong}
 use Rattle.afdx_replay.specs.cascading.Early.{HearsEarly}

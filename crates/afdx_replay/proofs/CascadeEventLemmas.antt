@@ -26,13 +26,13 @@ use Rattle.afdx_end_systems.specs.StandsFor as systems
 use Rattle.afdx_end_systems.specs.declared.systems.Systems.{Systems}
 use Rattle.afdx_end_systems.specs.Receptions.{is_delivered, is_delivered_at, line_at, reception_line}
 use Rattle.afdx_frame.specs.declared.link.Side.{Side}
-use Rattle.afdx_lists.specs.Calls.{AppendsFront}
+use Rattle.afdx_input_lines.specs.Calls.{AppendsFront}
 use Rattle.afdx_network.specs.Events.{Event, Left, Departure}
 use Rattle.afdx_switch.proofs.ListLemmas.{set-cases}
-use Rattle.afdx_commands.specs.declared.summary.Summary.{Summary}
+use Rattle.afdx_command_tables.specs.declared.summary.Summary.{Summary}
 use Rattle.afdx_text.specs.OutLines.{departure_line, place_text, side_text}
 use Rattle.afdx_replay.specs.cascading.Text.{event_lines}
-use Rattle.afdx_inputs.specs.ListText.{switch_name}
+use Rattle.afdx_input_runs.specs.ListText.{switch_name}
 use Rattle.afdx_replay.specs.cascading.Told.{AreSteady, SystemsAre, TellsOne}
 use Rattle.afdx_replay.specs.replaying.Replayed.{HasRoom, Known, TellsDeparture}
 use Rattle.afdx_replay.specs.replaying.Text.{frames_left, handed_over, heard, lines_at}

@@ -13,39 +13,39 @@ use Rattle.afdx_cascade.specs.Cascade as cascade
 use Rattle.afdx_cascade.specs.Turning.{end_of}
 use Rattle.afdx_cascade.proofs.WaitLemmas.{nothing-brought}
 use Rattle.afdx_cascade.specs.declared.cascade.Cascade.{Cascade}
-use Rattle.afdx_commands.specs.Checking.{IsAdmittedFile}
-use Rattle.afdx_commands.specs.Counts.{with_lines}
-use Rattle.afdx_commands.specs.declared.summary.Summary.{Summary}
+use Rattle.afdx_command_tables.specs.Checking.{IsAdmittedFile}
+use Rattle.afdx_command_tables.specs.Counts.{with_lines}
+use Rattle.afdx_command_tables.specs.declared.summary.Summary.{Summary}
 use Rattle.afdx_end_systems.specs.declared.systems.Systems.{Systems}
 use Rattle.afdx_frame.specs.Seals.{IsSealedAs}
 use Rattle.afdx_frame.specs.Times.{latest_listed}
-use Rattle.afdx_engine.specs.Engine.{CanTell, Item, item_of}
-use Rattle.afdx_engine.specs.Items.{CanFollow, thing_of}
-use Rattle.afdx_engine.specs.ListRun.{IsDone, ListAnswers, Of}
-use Rattle.afdx_engine.specs.Listed.{frames}
-use Rattle.afdx_engine.specs.Lists.{latest_in}
-use Rattle.afdx_engine.proofs.ListRunLemmas.{answers-err, answers-ok, start-answers}
-use Rattle.afdx_engine.proofs.RunLemmas.{stops-at-start, stops-more}
-use Rattle.afdx_inputs.specs.InputRun.{InputAnswers, is_read_recorded}
-use Rattle.afdx_inputs.specs.RecordingRun.{IfBoth}
-use Rattle.afdx_inputs.specs.TakenRun.{TakenAnswers}
-use Rattle.afdx_inputs.proofs.RecordingRunLemmas.{answers-start, listed-none}
-use Rattle.afdx_inputs.proofs.TakenLemmas.{answers-say}
-use Rattle.afdx_recorded.specs.Becoming.{options_of}
-use Rattle.afdx_recorded.specs.Claims.{ports_of_several}
-use Rattle.afdx_recorded.specs.NumberLines.{Lines as RecordedLines, arrivals_listed}
-use Rattle.afdx_recorded.specs.Taking.{Taken, AreCutOff, taken_of_bytes}
-use Rattle.afdx_recorded.specs.declared.counts.Tally.{Tally}
-use Rattle.afdx_inputs.specs.declared.input_run.InputCount.{InputCount}
-use Rattle.afdx_inputs.specs.declared.input_run.InputCount.TheVariants.{Lines, Recorded}
-use Rattle.afdx_lists.specs.FrameLines.{listed_frame}
-use Rattle.afdx_lists.specs.Lines.{lines_of, most_lines}
-use Rattle.afdx_lists.specs.SitedLines.{NamedCables, sited_frame}
-use Rattle.afdx_lists.specs.declared.fault.RunFault.{RunFault}
-use Rattle.afdx_lists.specs.declared.fault.RunFault.TheVariants as run
-use Rattle.afdx_lists.specs.declared.frame_line.Heading.{Heading}
-use Rattle.afdx_lists.specs.declared.watched.Watched.{Watched}
-use Rattle.afdx_recorded.specs.declared.becoming.RecordingOptions.{RecordingOptions}
+use Rattle.afdx_input_sources.specs.Engine.{CanTell, Item, item_of}
+use Rattle.afdx_input_sources.specs.Items.{CanFollow, thing_of}
+use Rattle.afdx_input_sources.specs.ListRun.{IsDone, ListAnswers, Of}
+use Rattle.afdx_input_sources.specs.Listed.{frames}
+use Rattle.afdx_input_sources.specs.Lists.{latest_in}
+use Rattle.afdx_input_sources.proofs.ListRunLemmas.{answers-err, answers-ok, start-answers}
+use Rattle.afdx_input_sources.proofs.RunLemmas.{stops-at-start, stops-more}
+use Rattle.afdx_input_runs.specs.InputRun.{InputAnswers, is_read_recorded}
+use Rattle.afdx_input_runs.specs.RecordingRun.{IfBoth}
+use Rattle.afdx_input_runs.specs.TakenRun.{TakenAnswers}
+use Rattle.afdx_input_runs.proofs.RecordingRunLemmas.{answers-start, listed-none}
+use Rattle.afdx_input_runs.proofs.TakenLemmas.{answers-say}
+use Rattle.afdx_input_sources.specs.Becoming.{options_of}
+use Rattle.afdx_input_sources.specs.Claims.{ports_of_several}
+use Rattle.afdx_input_sources.specs.NumberLines.{Lines as RecordedLines, arrivals_listed}
+use Rattle.afdx_input_sources.specs.Taking.{Taken, AreCutOff, taken_of_bytes}
+use Rattle.afdx_input_sources.specs.declared.counts.Tally.{Tally}
+use Rattle.afdx_input_runs.specs.declared.input_run.InputCount.{InputCount}
+use Rattle.afdx_input_runs.specs.declared.input_run.InputCount.TheVariants.{Lines, Recorded}
+use Rattle.afdx_input_lines.specs.FrameLines.{listed_frame}
+use Rattle.afdx_input_lines.specs.Lines.{lines_of, most_lines}
+use Rattle.afdx_input_lines.specs.SitedLines.{NamedCables, sited_frame}
+use Rattle.afdx_input_lines.specs.declared.fault.RunFault.{RunFault}
+use Rattle.afdx_input_lines.specs.declared.fault.RunFault.TheVariants as run
+use Rattle.afdx_input_lines.specs.declared.frame_line.Heading.{Heading}
+use Rattle.afdx_input_lines.specs.declared.watched.Watched.{Watched}
+use Rattle.afdx_input_sources.specs.declared.becoming.RecordingOptions.{RecordingOptions}
 use Rattle.afdx_text.proofs.OutputLemmas.{whole_front}
 use Rattle.afdx_text.proofs.TellingLemmas.{Tells-none}
 use Rattle.afdx_replay.specs.Inputs.{answer_of}
@@ -56,7 +56,7 @@ use Rattle.afdx_replay.specs.cascading.Ran.{Answers, HearsSoFar, WritesAll, Writ
 use Rattle.afdx_replay.specs.cascading.Sited.{IsAtPlace, IsAtSite, cables_of, lines_in, site_of, sited_frames}
 use Rattle.afdx_replay.specs.cascading.Sited.{sites_of}
 use Rattle.afdx_replay.specs.cascading.Text.{cascade_text}
-use Rattle.afdx_inputs.specs.ListText.{switch_name}
+use Rattle.afdx_input_runs.specs.ListText.{switch_name}
 use Rattle.afdx_replay.specs.cascading.Told.{AreSteady, HasTold, SystemsAre, latest_line}
 use Rattle.afdx_replay.specs.declared.cascading.run.Cascading.{Cascading}
 use Rattle.afdx_replay.specs.declared.cascading.teller.Teller.{Teller}

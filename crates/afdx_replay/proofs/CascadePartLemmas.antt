@@ -21,7 +21,7 @@ use Rattle.afdx_cascade.proofs.WayHopLemmas.{cascade-admitted}
 use Rattle.afdx_config.specs.Switches.{AreSwitches, NamedRows}
 use Rattle.afdx_network.specs.Events.{Event}
 use Rattle.afdx_network.specs.Order.{events_of}
-use Rattle.afdx_promises.specs.Lines.{told_by}
+use Rattle.afdx_law_promises.specs.Lines.{told_by}
 use Rattle.afdx_replay.proofs.CascadePromisedLemmas.{admitted-run}
 use Rattle.afdx_replay.proofs.CascadeWholeLemmas.{frames-listed}
 use Rattle.afdx_replay.proofs.PromisedLemmas.{first-text}

@@ -5,7 +5,7 @@ use Rattle.std.specs.Prelude.{nat_lt, IsTrue, if◌then◌else◌}
 use Rattle.std.specs.List.{AllByRecursion}
 use Rattle.std.proofs.lemmas.Bool.{ltb-false, ltb-true}
 use Rattle.afdx_admit.specs.Cascade.{IsCascadeAdmitted}
-use Rattle.afdx_bounds.specs.Outputs.{AreTimed}
+use Rattle.afdx_law_bounds.specs.Outputs.{AreTimed}
 use Rattle.afdx_cascade.specs.Cascade.{StandsFor}
 use Rattle.afdx_cascade.specs.Plans.{plan_of, tables_of}
 use Rattle.afdx_cascade.specs.SwitchEvents.{SwitchEvent, at_switch, came_to}

@@ -24,16 +24,16 @@ use Rattle.afdx_replay.proofs.CascadePartLemmas.{own-is, parts-so-far}
 use Rattle.afdx_replay.proofs.CascadePromisedLemmas.{admitted-run, promised-at}
 use Rattle.afdx_replay.proofs.CascadeWholeLemmas.{whole-events}
 use Rattle.afdx_replay.proofs.PromisedLemmas.{first-text}
-use Rattle.afdx_engine.specs.Items.{most_frames}
-use Rattle.afdx_lists.specs.Calls.{AppendsFront}
-use Rattle.afdx_lists.specs.declared.watched.Watched.{Watched}
+use Rattle.afdx_input_sources.specs.Items.{most_frames}
+use Rattle.afdx_input_lines.specs.Calls.{AppendsFront}
+use Rattle.afdx_input_lines.specs.declared.watched.Watched.{Watched}
 use Rattle.afdx_network.specs.Events.{Event, Came, Left}
 use Rattle.afdx_police.specs.declared.shape.Reason.{Reason}
-use Rattle.afdx_commands.specs.declared.summary.Summary.{Summary}
+use Rattle.afdx_command_tables.specs.declared.summary.Summary.{Summary}
 use Rattle.afdx_text.proofs.OutputLemmas.{whole_front as front-whole, front-more}
 use Rattle.afdx_cascade.specs.Keeping.{IsNothingDue}
 use Rattle.afdx_cascade.specs.Runs.{AreAll}
-use Rattle.afdx_commands.specs.Counts.{no_counts}
+use Rattle.afdx_command_tables.specs.Counts.{no_counts}
 use Rattle.afdx_replay.specs.cascading.Early.{HearsEarly}
 use Rattle.afdx_replay.specs.cascading.Ran.{AreInParts, WritesSome, WritesSoFar, WritesAll}
 use Rattle.afdx_replay.specs.cascading.Ran.{HearsSome, HearsSoFar, HearsAll}

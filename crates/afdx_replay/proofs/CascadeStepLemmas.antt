@@ -15,15 +15,15 @@ use Rattle.afdx_cascade.specs.declared.told.Happened.TheVariants.{Over, Came}
 use Rattle.afdx_cascade.proofs.EarlyLemmas.{early-told, early-none}
 use Rattle.afdx_cascade.proofs.MoreLemmas.{came-same}
 use Rattle.afdx_cascade.proofs.NextLemmas.{until-more}
-use Rattle.afdx_commands.specs.Counts.{no_counts}
+use Rattle.afdx_command_tables.specs.Counts.{no_counts}
 use Rattle.afdx_config.specs.Switches.{NamedRows}
-use Rattle.afdx_engine.specs.Engine.{Item}
-use Rattle.afdx_engine.specs.Items.{arrivals, most_frames}
-use Rattle.afdx_engine.specs.Listed.{frames}
-use Rattle.afdx_engine.specs.Lists.{latest_in}
-use Rattle.afdx_lists.specs.Calls.{AppendsFront}
-use Rattle.afdx_lists.specs.declared.frame_line.Heading.{Heading}
-use Rattle.afdx_lists.specs.declared.watched.Watched.{Watched}
+use Rattle.afdx_input_sources.specs.Engine.{Item}
+use Rattle.afdx_input_sources.specs.Items.{arrivals, most_frames}
+use Rattle.afdx_input_sources.specs.Listed.{frames}
+use Rattle.afdx_input_sources.specs.Lists.{latest_in}
+use Rattle.afdx_input_lines.specs.Calls.{AppendsFront}
+use Rattle.afdx_input_lines.specs.declared.frame_line.Heading.{Heading}
+use Rattle.afdx_input_lines.specs.declared.watched.Watched.{Watched}
 use Rattle.afdx_network.specs.Events.{admission_after}
 use Rattle.afdx_network.specs.Network.{reason_in}
 use Rattle.afdx_police.specs.Arrival.{Arrival}

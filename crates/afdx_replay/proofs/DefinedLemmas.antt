@@ -3,18 +3,18 @@ use Rattle.std.proofs.Common.{ℕ, List, length}
 use Rattle.std.specs.Prelude.{Option, Some, None, Result, Ok, Err, IfSome}
 use Rattle.afdx_config.specs.Lawful.{IsLawfulSwitch}
 use Rattle.afdx_config.specs.Rows.{Rows}
-use Rattle.afdx_lists.specs.Lines.{lines_of}
-use Rattle.afdx_lists.specs.declared.fault.RunFault.{RunFault}
+use Rattle.afdx_input_lines.specs.Lines.{lines_of}
+use Rattle.afdx_input_lines.specs.declared.fault.RunFault.{RunFault}
 use Rattle.afdx_network.specs.Order.{events_of, events_so_far}
 use Rattle.afdx_network.proofs.OrderedLemmas.{are-events, are-so-far}
-use Rattle.afdx_promises.proofs.DefinitionLemmas.{events-by-definition, so-far-by-definition}
+use Rattle.afdx_law_promises.proofs.DefinitionLemmas.{events-by-definition, so-far-by-definition}
 use Rattle.afdx_replay.specs.replaying.DefinedRun.{WritesDefinedSoFar, WritesDefinedSome, DefinedAnswers}
 use Rattle.afdx_replay.specs.replaying.DefinedRun.{RunsAreByDefinition}
-use Rattle.afdx_engine.specs.Listed.{frames, arrivals_of}
+use Rattle.afdx_input_sources.specs.Listed.{frames, arrivals_of}
 use Rattle.afdx_replay.specs.replaying.Replayed.{WritesSoFar, WritesSome, Answers}
-use Rattle.afdx_commands.specs.declared.summary.Summary.{Summary}
+use Rattle.afdx_command_tables.specs.declared.summary.Summary.{Summary}
 use Rattle.afdx_replay.proofs.AdmittedRunLemmas.{arrivals-timed, arrivals-listed}
-use Rattle.afdx_engine.proofs.RunLemmas.{stops-more}
+use Rattle.afdx_input_sources.proofs.RunLemmas.{stops-more}
 
 module _ (t : Rows) (bytes : List ℕ) (old new : Option (List ℕ)) (lawful : IsLawfulSwitch t) where
   all-defined : (n : ℕ) → WritesSoFar t old new (arrivals_of (lines_of bytes) n)

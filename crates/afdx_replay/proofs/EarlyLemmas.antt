@@ -7,7 +7,7 @@ use Rattle.afdx_police.specs.declared.shape.Reason.{Reason}
 use Rattle.afdx_police.specs.declared.shape.Reason.TheVariants.{OverRate}
 use Rattle.afdx_police.specs.Verdicts.{is_over_rate}
 use Rattle.afdx_police.proofs.EarlyLemmas.{is_over_rate-true}
-use Rattle.afdx_lists.specs.declared.watched.Watched.{Watched}
+use Rattle.afdx_input_lines.specs.declared.watched.Watched.{Watched}
 use Rattle.afdx_switch.specs.Early.{IsEarlyBy}
 use Rattle.afdx_switch.specs.Verdicts.{reason_of, shape_fault}
 use Rattle.afdx_switch.proofs.EarlyLemmas.{early-dropped, over-rate-sound}

@@ -18,22 +18,22 @@ use Rattle.afdx_config.specs.Switches.{NamedRows, AreSwitches, far_end, if_neigh
 use Rattle.afdx_config.specs.declared.describing.Described.TheVariants.{Several}
 use Rattle.afdx_config.specs.declared.switches.FarEnd.{FarEnd}
 use Rattle.afdx_cascade.specs.Turning.{end_of}
-use Rattle.afdx_lists.specs.declared.frame_line.Heading.{Heading}
-use Rattle.afdx_engine.specs.Engine.{Item}
-use Rattle.afdx_recorded.specs.Becoming.{entry_of, only_if, options_of}
-use Rattle.afdx_recorded.specs.Claims.{entry_from, own_systems, port_of_system, ports_of_several}
-use Rattle.afdx_recorded.specs.Claims.{sender_of}
-use Rattle.afdx_recorded.specs.Entering.{IsEntered, entry_in}
-use Rattle.afdx_recorded.specs.Places.{allows, entry_at, names_of, place_of}
-use Rattle.afdx_recorded.specs.Placing.{ArePlaced, OptionsArePlaced, PairIsPlaced, at_known, at_switch, is_free}
-use Rattle.afdx_recorded.specs.Placing.{place_in, switch_by}
-use Rattle.afdx_recorded.specs.declared.becoming.RecordingOptions.{RecordingOptions}
-use Rattle.afdx_recorded.specs.declared.pair_options.PairOptions.{PairOptions}
-use Rattle.afdx_recorded.specs.declared.places.Entry.{Entry}
-use Rattle.afdx_recorded.specs.declared.places.Interfaces.{Interfaces}
-use Rattle.afdx_recorded.specs.declared.places.Place.{Place}
-use Rattle.afdx_recorded.specs.declared.places.Place.TheVariants as place
-use Rattle.afdx_inputs.specs.RecordingRun.{IsEnteredBy}
+use Rattle.afdx_input_lines.specs.declared.frame_line.Heading.{Heading}
+use Rattle.afdx_input_sources.specs.Engine.{Item}
+use Rattle.afdx_input_sources.specs.Becoming.{entry_of, only_if, options_of}
+use Rattle.afdx_input_sources.specs.Claims.{entry_from, own_systems, port_of_system, ports_of_several}
+use Rattle.afdx_input_sources.specs.Claims.{sender_of}
+use Rattle.afdx_input_sources.specs.Entering.{IsEntered, entry_in}
+use Rattle.afdx_input_sources.specs.Places.{allows, entry_at, names_of, place_of}
+use Rattle.afdx_input_sources.specs.Placing.{ArePlaced, OptionsArePlaced, PairIsPlaced, at_known, at_switch, is_free}
+use Rattle.afdx_input_sources.specs.Placing.{place_in, switch_by}
+use Rattle.afdx_input_sources.specs.declared.becoming.RecordingOptions.{RecordingOptions}
+use Rattle.afdx_input_sources.specs.declared.pair_options.PairOptions.{PairOptions}
+use Rattle.afdx_input_sources.specs.declared.places.Entry.{Entry}
+use Rattle.afdx_input_sources.specs.declared.places.Interfaces.{Interfaces}
+use Rattle.afdx_input_sources.specs.declared.places.Place.{Place}
+use Rattle.afdx_input_sources.specs.declared.places.Place.TheVariants as place
+use Rattle.afdx_input_runs.specs.RecordingRun.{IsEnteredBy}
 use Rattle.afdx_replay.specs.cascading.Sited.{IsAtPlace}
 
 -- ---- look-ups that found something

@@ -1,17 +1,17 @@
 -- What a listing answers in the tables of a configuration.
 use Rattle.std.proofs.Common.{ℕ, List, refl, Option, Some, None, Result, Err, IfSome}
 use Rattle.afdx_config.specs.declared.describing.Described.{Described}
-use Rattle.afdx_lists.specs.declared.fault.RunFault.{RunFault}
-use Rattle.afdx_lists.specs.declared.fault.RunFault.TheVariants as run
-use Rattle.afdx_engine.specs.Engine.{Bytes}
-use Rattle.afdx_recorded.specs.Becoming.{Options}
-use Rattle.afdx_recorded.specs.Claims.{Agree, Ports}
-use Rattle.afdx_inputs.specs.ListText.{lines_themselves, ListingAnswers, WritesLines, WritesSomeLines}
-use Rattle.afdx_recorded.specs.Taking.{AreCutOff, taken_of_bytes}
-use Rattle.afdx_recorded.specs.declared.counts.Tally.{Tally}
-use Rattle.afdx_inputs.proofs.InputLemmas.{taken-agree, cut-agree}
-use Rattle.afdx_inputs.proofs.ListingLemmas.{lines-start}
-use Rattle.afdx_inputs.proofs.TakenLemmas.{answers-same, taken-start}
+use Rattle.afdx_input_lines.specs.declared.fault.RunFault.{RunFault}
+use Rattle.afdx_input_lines.specs.declared.fault.RunFault.TheVariants as run
+use Rattle.afdx_input_sources.specs.Engine.{Bytes}
+use Rattle.afdx_input_sources.specs.Becoming.{Options}
+use Rattle.afdx_input_sources.specs.Claims.{Agree, Ports}
+use Rattle.afdx_input_runs.specs.ListText.{lines_themselves, ListingAnswers, WritesLines, WritesSomeLines}
+use Rattle.afdx_input_sources.specs.Taking.{AreCutOff, taken_of_bytes}
+use Rattle.afdx_input_sources.specs.declared.counts.Tally.{Tally}
+use Rattle.afdx_input_runs.proofs.InputLemmas.{taken-agree, cut-agree}
+use Rattle.afdx_input_runs.proofs.ListingLemmas.{lines-start}
+use Rattle.afdx_input_runs.proofs.TakenLemmas.{answers-same, taken-start}
 
 -- memory was refused before anything was read
 pub listing-unread : (d : Described) (options : Options) (ports : Ports) (left : Option (List ℕ)) (old : Bytes)

@@ -5,7 +5,7 @@ use Rattle.std.proofs.Common.{if◌then◌else◌}
 use Rattle.std.specs.Prelude.{filter}
 use Rattle.std.specs.Io.KnownBytes.{Appends}
 use Rattle.std.proofs.KnownBytes.{Appends-trans}
-use Rattle.afdx_lists.specs.Calls.{AppendsFront}
+use Rattle.afdx_input_lines.specs.Calls.{AppendsFront}
 use Rattle.afdx_switch.specs.Ports.{holds}
 use Rattle.afdx_switch.specs.Verdicts.{numbers}
 use Rattle.afdx_switch.specs.declared.ports.PortSet.{PortSet}

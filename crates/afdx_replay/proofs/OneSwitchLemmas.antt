@@ -13,16 +13,16 @@ use Rattle.afdx_frame.specs.Lines.{first_false, each_from}
 use Rattle.afdx_frame.specs.declared.link.Side.{Side}
 use Rattle.afdx_frame.proofs.FirstFalseLemmas.{append_holds, cons_holds, each_holds, none_of, true-le}
 use Rattle.std.proofs.lemmas.List.FromFn.{length-map-range_with_len}
-use Rattle.afdx_lists.specs.FrameLines.{kind_of, side_of}
-use Rattle.afdx_lists.specs.Forms.{from_six, six_of}
-use Rattle.afdx_lists.specs.SitedLines.{NamedCables, SitedFields, SitedFrame, place_named, sited_fields}
-use Rattle.afdx_lists.specs.SitedLines.{sited_fields_from, sited_fields_with, sited_form, sited_line_says}
-use Rattle.afdx_lists.specs.Splitting.{between_spaces, number_of}
-use Rattle.afdx_lists.specs.declared.fault.LineFault.{LineFault}
-use Rattle.afdx_lists.specs.declared.frame_line.FrameKind.{FrameKind}
-use Rattle.afdx_lists.proofs.FormLemmas.{says-from}
-use Rattle.afdx_engine.specs.Lists.{items_of, item_after, latest_in, with_item}
-use Rattle.afdx_promises.proofs.ListLemmas.{reverse-cons}
+use Rattle.afdx_input_lines.specs.FrameLines.{kind_of, side_of}
+use Rattle.afdx_input_lines.specs.Forms.{from_six, six_of}
+use Rattle.afdx_input_lines.specs.SitedLines.{NamedCables, SitedFields, SitedFrame, place_named, sited_fields}
+use Rattle.afdx_input_lines.specs.SitedLines.{sited_fields_from, sited_fields_with, sited_form, sited_line_says}
+use Rattle.afdx_input_lines.specs.Splitting.{between_spaces, number_of}
+use Rattle.afdx_input_lines.specs.declared.fault.LineFault.{LineFault}
+use Rattle.afdx_input_lines.specs.declared.frame_line.FrameKind.{FrameKind}
+use Rattle.afdx_input_lines.proofs.FormLemmas.{says-from}
+use Rattle.afdx_input_sources.specs.Lists.{items_of, item_after, latest_in, with_item}
+use Rattle.afdx_law_promises.proofs.ListLemmas.{reverse-cons}
 use Rattle.std.specs.Str.Lines.{strip_carriage_return}
 use Rattle.afdx_cascade.specs.Parts.{frames_of}
 use Rattle.afdx_cascade.specs.Plans.{plan_of, tables_of}
@@ -50,7 +50,7 @@ use Rattle.afdx_replay.specs.cascading.OneSwitch.{AreAtSwitches, named_text}
 use Rattle.afdx_replay.specs.cascading.Ran.{lists}
 use Rattle.afdx_replay.specs.cascading.Sited.{site_of, sites_of}
 use Rattle.afdx_replay.specs.cascading.Text.{cascade_text, cascade_counts}
-use Rattle.afdx_inputs.specs.ListText.{switch_name}
+use Rattle.afdx_input_runs.specs.ListText.{switch_name}
 use Rattle.afdx_replay.specs.replaying.Text.{lines_at, replay_text, replay_counts, with_event}
 
 -- ---- a cable leads to another switch

@@ -11,13 +11,13 @@ use Rattle.afdx_switch.specs.Admitted.{IsAdmittedRun}
 use Rattle.afdx_network.specs.Events.{Event, Came, Left, Admission, Departure}
 use Rattle.afdx_network.specs.Order.{IsAmong, events_of, events_so_far}
 use Rattle.afdx_network.proofs.OrderedLemmas.{are-events, are-so-far}
-use Rattle.afdx_promises.specs.NetworkPromises.{EventsKeepPromises, EventsSoFarKeepPromises}
-use Rattle.afdx_promises.specs.Lines.{Departed, leaving, with_reception, told_by}
-use Rattle.afdx_promises.specs.Promises.{told, told_so_far}
-use Rattle.afdx_promises.specs.Receptions.{brought, brought_by}
-use Rattle.afdx_promises.proofs.AcceptedLemmas.{told-accepted, told-so-far-accepted}
-use Rattle.afdx_promises.proofs.EventLemmas.{as-promised, so-far-promised}
-use Rattle.afdx_promises.proofs.ToldLemmas as promise
+use Rattle.afdx_law_promises.specs.NetworkPromises.{EventsKeepPromises, EventsSoFarKeepPromises}
+use Rattle.afdx_law_promises.specs.Lines.{Departed, leaving, with_reception, told_by}
+use Rattle.afdx_law_promises.specs.Promises.{told, told_so_far}
+use Rattle.afdx_law_promises.specs.Receptions.{brought, brought_by}
+use Rattle.afdx_law_promises.proofs.AcceptedLemmas.{told-accepted, told-so-far-accepted}
+use Rattle.afdx_law_promises.proofs.EventLemmas.{as-promised, so-far-promised}
+use Rattle.afdx_law_promises.proofs.ToldLemmas as promise
 use Rattle.afdx_end_systems.specs.Handovers.{came_to, arrival_of}
 use Rattle.afdx_end_systems.specs.Receptions.{line_at, reception_line, is_delivered}
 use Rattle.afdx_replay.specs.policing.Text.{verdict_line}
@@ -26,7 +26,7 @@ use Rattle.afdx_replay.specs.replaying.Promises.{text_of, ReplayIsAsPromised, Re
 use Rattle.afdx_replay.specs.replaying.Text.{handed_over, frames_left, loss_lines, departure_line}
 use Rattle.afdx_replay.specs.replaying.Text.{heard, lines_after, replay_text, replay_counts}
 use Rattle.afdx_replay.specs.replaying.Text.{with_admission, with_departure}
-use Rattle.afdx_commands.specs.declared.summary.Summary.{Summary}
+use Rattle.afdx_command_tables.specs.declared.summary.Summary.{Summary}
 
 -- ---- events of which no copy is lost and none is too old
 

@@ -9,9 +9,9 @@ use Rattle.afdx_frame.specs.declared.link.Side.{Side}
 use Rattle.afdx_config.specs.Rows.{Rows}
 use Rattle.afdx_police.specs.Arrival.{Arrival}
 use Rattle.afdx_police.specs.declared.shape.Reason.{Reason}
-use Rattle.afdx_lists.specs.Calls.{AppendsFront}
-use Rattle.afdx_lists.specs.Lines.{lines_of}
-use Rattle.afdx_lists.specs.declared.fault.RunFault.TheVariants as run
+use Rattle.afdx_input_lines.specs.Calls.{AppendsFront}
+use Rattle.afdx_input_lines.specs.Lines.{lines_of}
+use Rattle.afdx_input_lines.specs.declared.fault.RunFault.TheVariants as run
 use Rattle.afdx_end_systems.specs.Handovers.{HandedOver}
 use Rattle.afdx_end_systems.specs.Receptions.{reception_line, is_delivered}
 use Rattle.afdx_end_systems.specs.StandsFor as systems
@@ -27,16 +27,16 @@ use Rattle.afdx_network.proofs.OrderedLemmas.{one-order, one-order-so-far, begin
 use Rattle.afdx_replay.specs.policing.Text.{verdict_line}
 use Rattle.afdx_replay.specs.replaying.Text.{handed_over, frames_left, departure_line, heard}
 use Rattle.afdx_replay.specs.replaying.Text.{lines_after, lines_at, loss_lines, admission_lines, place_text, replay_text}
-use Rattle.afdx_commands.specs.Counts.{no_counts}
+use Rattle.afdx_command_tables.specs.Counts.{no_counts}
 use Rattle.afdx_replay.specs.replaying.Text.{with_admission, with_departure, with_event, replay_counts}
-use Rattle.afdx_commands.specs.Counts.{with_lines}
+use Rattle.afdx_command_tables.specs.Counts.{with_lines}
 use Rattle.afdx_replay.specs.replaying.Replayed.{WritesSoFar, WritesSome, WritesAll, HasTold, AreTold}
 use Rattle.afdx_replay.specs.replaying.Replayed.{ToldAll, TellsDeparture, HasRoom, AreLow}
-use Rattle.afdx_engine.specs.Items.{most_frames}
-use Rattle.afdx_engine.specs.Listed.{frames, arrivals_of}
-use Rattle.afdx_commands.specs.declared.summary.Summary.{Summary}
-use Rattle.afdx_engine.specs.Stops.{StopsAt}
-use Rattle.afdx_engine.proofs.RunLemmas.{IsDone, GaveLines-start}
+use Rattle.afdx_input_sources.specs.Items.{most_frames}
+use Rattle.afdx_input_sources.specs.Listed.{frames, arrivals_of}
+use Rattle.afdx_command_tables.specs.declared.summary.Summary.{Summary}
+use Rattle.afdx_input_sources.specs.Stops.{StopsAt}
+use Rattle.afdx_input_sources.proofs.RunLemmas.{IsDone, GaveLines-start}
 use Rattle.afdx_text.proofs.OutputLemmas.{whole_front as front-whole, front-more, front-longer}
 
 abbrev pub hand : Side → ℕ → ℕ → ℕ → List ℕ → HandedOver

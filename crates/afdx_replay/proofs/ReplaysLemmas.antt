@@ -10,25 +10,25 @@ use Rattle.afdx_config.specs.Lawful.{IsLawfulSwitch}
 use Rattle.afdx_config.specs.Rows.{Rows}
 use Rattle.afdx_police.specs.Arrival.{Arrival}
 use Rattle.afdx_police.specs.Rule.{Rule}
-use Rattle.afdx_bounds.specs.Outputs.{AreTimed}
-use Rattle.afdx_lists.specs.Calls.{is_failed_read, is_failed_write}
-use Rattle.afdx_lists.specs.declared.fault.RunFault.{RunFault}
-use Rattle.afdx_lists.specs.declared.fault.RunFault.TheVariants as run
-use Rattle.afdx_lists.specs.declared.watched.Watched.{Watched}
+use Rattle.afdx_law_bounds.specs.Outputs.{AreTimed}
+use Rattle.afdx_input_lines.specs.Calls.{is_failed_read, is_failed_write}
+use Rattle.afdx_input_lines.specs.declared.fault.RunFault.{RunFault}
+use Rattle.afdx_input_lines.specs.declared.fault.RunFault.TheVariants as run
+use Rattle.afdx_input_lines.specs.declared.watched.Watched.{Watched}
 use Rattle.afdx_text.specs.Telling.{TellsFault}
 use Rattle.afdx_network.specs.Order.{events_of}
 use Rattle.afdx_switch.specs.Admitted.{IsAdmittedRun}
-use Rattle.afdx_inputs.specs.Arrivals.{By, DontGoBack}
-use Rattle.afdx_inputs.specs.declared.input_run.InputCount.{InputCount}
-use Rattle.afdx_inputs.proofs.ArrivalsLemmas.{by-more}
-use Rattle.afdx_inputs.proofs.TookLemmas.{Took}
-use Rattle.afdx_engine.specs.Engine.{Item}
-use Rattle.afdx_engine.specs.Items.{arrivals}
-use Rattle.afdx_lists.specs.declared.frame_line.Heading.{Heading}
+use Rattle.afdx_input_runs.specs.Arrivals.{By, DontGoBack}
+use Rattle.afdx_input_runs.specs.declared.input_run.InputCount.{InputCount}
+use Rattle.afdx_input_runs.proofs.ArrivalsLemmas.{by-more}
+use Rattle.afdx_input_runs.proofs.TookLemmas.{Took}
+use Rattle.afdx_input_sources.specs.Engine.{Item}
+use Rattle.afdx_input_sources.specs.Items.{arrivals}
+use Rattle.afdx_input_lines.specs.declared.frame_line.Heading.{Heading}
 use Rattle.afdx_replay.specs.declared.replaying.run.Replay.{Replay}
 use Rattle.afdx_replay.proofs.ReplayLemmas.{are-some, are-so-far}
-use Rattle.afdx_commands.specs.Commands.{status_of_answer}
-use Rattle.afdx_commands.specs.declared.summary.Summary.{Summary}
+use Rattle.afdx_command_tables.specs.Commands.{status_of_answer}
+use Rattle.afdx_command_tables.specs.declared.summary.Summary.{Summary}
 use Rattle.afdx_replay.specs.Inputs.{answer_of, summary_in, tally_in, EndsInputAs}
 use Rattle.afdx_replay.specs.declared.input_ending.InputEnded.{InputEnded}
 use Rattle.afdx_replay.specs.declared.input_ending.InputSummary.{InputSummary}

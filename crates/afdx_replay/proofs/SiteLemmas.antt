@@ -15,9 +15,9 @@ use Rattle.afdx_frame.proofs.ListLemmas.{AllByRecursion-slice_get, slice_get-wit
 use Rattle.afdx_config.specs.Reading.{is_name}
 use Rattle.afdx_config.specs.Switches.{AreSwitches, NamedRows, far_end, switch_named}
 use Rattle.afdx_cascade.proofs.PlanLemmas.{own-place}
-use Rattle.afdx_lists.specs.SitedLines.{NamedCables, is_cable_at, place_named}
+use Rattle.afdx_input_lines.specs.SitedLines.{NamedCables, is_cable_at, place_named}
 use Rattle.afdx_replay.specs.cascading.Sited.{has_cable, site_of, sites_of}
-use Rattle.afdx_inputs.specs.ListText.{switch_name}
+use Rattle.afdx_input_runs.specs.ListText.{switch_name}
 
 -- two lists of which the same places pass have the same first place that does
 same-first : {X Y : Type 0} (p : X → Bool) (q : Y → Bool) (xs : List X) (ys : List Y) → length xs ≡ length ys

@@ -6,21 +6,21 @@ use Rattle.std.specs.Prelude.{if◌then◌else◌}
 use Rattle.std.specs.Io.KnownBytes.{Appends}
 use Rattle.std.proofs.KnownBytes.{Appends-trans, Appends-nil}
 use Rattle.afdx_frame.specs.declared.by_side.BySide.{BySide}
-use Rattle.afdx_lists.specs.Calls.{AppendsFront}
-use Rattle.afdx_lists.specs.Lines.{lines_of}
-use Rattle.afdx_lists.specs.declared.fault.RunFault.TheVariants as run
+use Rattle.afdx_input_lines.specs.Calls.{AppendsFront}
+use Rattle.afdx_input_lines.specs.Lines.{lines_of}
+use Rattle.afdx_input_lines.specs.declared.fault.RunFault.TheVariants as run
 use Rattle.afdx_police.specs.declared.account.LinkAccount.{LinkAccount}
 use Rattle.afdx_police.specs.declared.shape.Reason.{Reason}
 use Rattle.afdx_police.specs.Arrival.{Arrival}
 use Rattle.afdx_police.specs.Rule.{Rule}
 use Rattle.afdx_police.specs.Verdicts.{verdict_in}
-use Rattle.afdx_commands.specs.declared.summary.Summary.{Summary}
-use Rattle.afdx_engine.specs.Listed.{frames}
+use Rattle.afdx_command_tables.specs.declared.summary.Summary.{Summary}
+use Rattle.afdx_input_sources.specs.Listed.{frames}
 use Rattle.afdx_replay.specs.policing.Text.{text_of, count_judged, side_text, verdict_line}
 use Rattle.afdx_replay.specs.policing.Policed.{WritesBeginning, WritesAll}
 use Rattle.afdx_replay.specs.policing.Accounts.{HaveSeen}
 use Rattle.afdx_replay.specs.policing.Told.{HasTold}
-use Rattle.afdx_engine.proofs.RunLemmas.{IsDone}
+use Rattle.afdx_input_sources.proofs.RunLemmas.{IsDone}
 use Rattle.afdx_replay.proofs.TextLemmas.{text_of-none, text_of-more, judged-none}
 use Rattle.afdx_replay.proofs.TextLemmas.{judged-more, judged-same}
 use Rattle.afdx_text.proofs.OutputLemmas.{front-more}

@@ -1,13 +1,13 @@
 -- Runs over an input that is a list of frames, or a recording, or over two recordings: what they
 -- count.
 use Rattle.std.specs.Prelude.{ℕ, ◌≡◌, Bool, List, Option, Some, None, Result, Ok, Err}
-use Rattle.afdx_lists.specs.declared.fault.RunFault.{RunFault}
-use Rattle.afdx_inputs.specs.declared.input_run.InputCount.{InputCount}
-use Rattle.afdx_inputs.specs.declared.input_run.InputCount.TheVariants.{Lines, Recorded}
-use Rattle.afdx_recorded.specs.declared.counts.Tally.{Tally}
-use Rattle.afdx_commands.specs.declared.summary.Summary.{Summary}
-use Rattle.afdx_lists.specs.declared.watched.Watched.{Watched}
-use Rattle.afdx_commands.specs.Commands.{EndsWith}
+use Rattle.afdx_input_lines.specs.declared.fault.RunFault.{RunFault}
+use Rattle.afdx_input_runs.specs.declared.input_run.InputCount.{InputCount}
+use Rattle.afdx_input_runs.specs.declared.input_run.InputCount.TheVariants.{Lines, Recorded}
+use Rattle.afdx_input_sources.specs.declared.counts.Tally.{Tally}
+use Rattle.afdx_command_tables.specs.declared.summary.Summary.{Summary}
+use Rattle.afdx_input_lines.specs.declared.watched.Watched.{Watched}
+use Rattle.afdx_command_tables.specs.Commands.{EndsWith}
 use Rattle.afdx_replay.specs.declared.input_ending.InputEnded.{InputEnded}
 use Rattle.afdx_replay.specs.declared.input_ending.InputSummary.{InputSummary}
 

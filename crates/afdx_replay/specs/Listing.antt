@@ -4,20 +4,20 @@ use Rattle.std.specs.Prelude.{ℕ, ◌≡◌, ◌⊎◌, Bool, List, Option, Non
 use Rattle.std.specs.Result.{result_ok}
 use Rattle.afdx_config.specs.declared.describing.Described.{Described}
 use Rattle.afdx_frame.specs.declared.by_side.BySide.{BySide}
-use Rattle.afdx_lists.specs.Calls.{is_failed_read, is_failed_write}
-use Rattle.afdx_lists.specs.Faults.{status_of}
-use Rattle.afdx_lists.specs.Watching.{calls_of, device_of}
-use Rattle.afdx_lists.specs.declared.fault.RunFault.{RunFault}
-use Rattle.afdx_lists.specs.declared.watched.Watched.{Watched}
-use Rattle.afdx_inputs.specs.ListText.{ListingAnswers, ListsTaken}
-use Rattle.afdx_inputs.specs.RecordingRun.{AreCutOffInPair, IfBothKnown, IsAskedOnce, taken_of_pair}
-use Rattle.afdx_recorded.specs.Becoming.{options_of}
-use Rattle.afdx_recorded.specs.Claims.{ports_in}
-use Rattle.afdx_recorded.specs.declared.becoming.RecordingOptions.{RecordingOptions}
-use Rattle.afdx_recorded.specs.declared.counts.Tally.{Tally}
-use Rattle.afdx_recorded.specs.declared.pair_options.PairOptions.{PairOptions}
+use Rattle.afdx_input_lines.specs.Calls.{is_failed_read, is_failed_write}
+use Rattle.afdx_input_lines.specs.Faults.{status_of}
+use Rattle.afdx_input_lines.specs.Watching.{calls_of, device_of}
+use Rattle.afdx_input_lines.specs.declared.fault.RunFault.{RunFault}
+use Rattle.afdx_input_lines.specs.declared.watched.Watched.{Watched}
+use Rattle.afdx_input_runs.specs.ListText.{ListingAnswers, ListsTaken}
+use Rattle.afdx_input_runs.specs.RecordingRun.{AreCutOffInPair, IfBothKnown, IsAskedOnce, taken_of_pair}
+use Rattle.afdx_input_sources.specs.Becoming.{options_of}
+use Rattle.afdx_input_sources.specs.Claims.{ports_in}
+use Rattle.afdx_input_sources.specs.declared.becoming.RecordingOptions.{RecordingOptions}
+use Rattle.afdx_input_sources.specs.declared.counts.Tally.{Tally}
+use Rattle.afdx_input_sources.specs.declared.pair_options.PairOptions.{PairOptions}
 use Rattle.afdx_text.specs.Telling.{TellsFault}
-use Rattle.afdx_commands.specs.Checking.{IsRead}
+use Rattle.afdx_command_tables.specs.Checking.{IsRead}
 use Rattle.afdx_replay.specs.Placed.{ArePlacedIn, IsUnplaced}
 use Rattle.afdx_replay.specs.declared.listing.ListEnded.{ListEnded}
 

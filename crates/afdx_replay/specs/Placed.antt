@@ -1,12 +1,12 @@
 -- A command that takes options of recordings: the places that they say are some of the
 -- configuration, or it isn't run.
 use Rattle.std.specs.Prelude.{ℕ, ◌≡◌, ◌⊎◌, Bool, true, List, Option}
-use Rattle.afdx_commands.specs.Checking.{IsRead}
-use Rattle.afdx_commands.specs.Commands.{IsInputStatus}
-use Rattle.afdx_commands.specs.Refusals.{no_place_line}
-use Rattle.afdx_commands.specs.Taking.{IsToldDenied, IsUnread}
+use Rattle.afdx_command_tables.specs.Checking.{IsRead}
+use Rattle.afdx_command_tables.specs.Commands.{IsInputStatus}
+use Rattle.afdx_command_tables.specs.Refusals.{no_place_line}
+use Rattle.afdx_command_tables.specs.Taking.{IsToldDenied, IsUnread}
 use Rattle.afdx_config.specs.declared.describing.Described.{Described}
-use Rattle.afdx_lists.specs.declared.watched.Watched.{Watched}
+use Rattle.afdx_input_lines.specs.declared.watched.Watched.{Watched}
 use Rattle.afdx_text.specs.Telling.{Tells}
 
 -- an exit status of a command over an input, or that of wrong words

@@ -3,13 +3,13 @@
 ghost use Rattle.std.specs.Prelude.{◌≡◌, ◌↔◌, IsSome, OnOk, IfErr};
 ghost use Rattle.std.specs.Result.{result_ok};
 ghost use Rattle.afdx_text.specs.Telling.{TellsFault};
-ghost use Rattle.afdx_commands.specs.Commands.{status_of_answer};
+ghost use Rattle.afdx_command_tables.specs.Commands.{status_of_answer};
 ghost use Rattle.afdx_replay.specs.Inputs.{summary_in, summary_of, tally_in};
 
-use afdx_commands::{Ended, Summary, end};
-use afdx_inputs::InputCount;
-use afdx_lists::{RunFault, Watched};
-use afdx_recorded::Tally;
+use afdx_command_tables::{Ended, Summary, end};
+use afdx_input_lines::{RunFault, Watched};
+use afdx_input_runs::InputCount;
+use afdx_input_sources::Tally;
 use std::io::Write;
 
 /// What a run over an input counted that is a list of frames, or a recording.

@@ -1,6 +1,6 @@
 //! Runs over lists of frames and recordings, what they write, and the commands of the program.
 //!
-//! Its tests are in `afdx_run_tests`.
+//! Its tests are in `afdx_test_runs`.
 #![tactic(auto)]
 
 mod cascading;
@@ -11,14 +11,13 @@ mod placed;
 mod policing;
 mod replaying;
 
-pub use afdx_commands::{
+pub use afdx_command_tables::{
     CheckOptions, Ended, KeptKeys, NO_COUNTS, SolveOptions, Summary, check, check_lines, finish,
-    solve_config,
+    run_send, send, send_and_count, solve_config,
 };
 pub use afdx_frame::{BySide, Policing};
-pub use afdx_lists::{ListFault, Peeked, RecordingFault, RunFault, Watched};
-pub use afdx_recorded::{Interfaces, PairOptions, Place, Placing, RecordingOptions, Tally};
-pub use afdx_sending::{run_send, send, send_and_count};
+pub use afdx_input_lines::{ListFault, OneOfTwo, Peeked, RecordingFault, RunFault, Watched};
+pub use afdx_input_sources::{Interfaces, PairOptions, Place, Placing, RecordingOptions, Tally};
 pub use afdx_text::{Output, Sink};
 pub use cascading::admitted::run_cascade;
 pub use cascading::over::SitedInput;

@@ -1,14 +1,14 @@
 //! The places that options of recordings say, in a configuration.
 
 ghost use Rattle.std.specs.Prelude.{◌≡◌, ◌⊎◌, IfErr, IfOk, OnOk};
-ghost use Rattle.afdx_commands.specs.Checking.{IsRead};
+ghost use Rattle.afdx_command_tables.specs.Checking.{IsRead};
 ghost use Rattle.afdx_replay.specs.Placed.{IsUnplaced};
 
-use afdx_commands::read_described;
-use afdx_commands::refusing::refuse_place;
+use afdx_command_tables::read_described;
+use afdx_command_tables::refusing::refuse_place;
 use afdx_config::Described;
-use afdx_lists::Watched;
-use afdx_recorded::Placing;
+use afdx_input_lines::Watched;
+use afdx_input_sources::Placing;
 use std::alloc::Global;
 use std::io::Write;
 

@@ -9,8 +9,8 @@ use Rattle.afdx_frame.proofs.ListLemmas.{slice_get-push_cases}
 use Rattle.afdx_config.specs.Admission.{byte_ns}
 use Rattle.afdx_config.specs.LawfulStream.{Sending}
 use Rattle.afdx_config.specs.Rows.{LinkRow, Rows}
-use Rattle.afdx_bounds.specs.Sender.{SenderIsInTime, one_of_each}
-use Rattle.afdx_bounds.specs.Tables.{EachSystemIsSender}
+use Rattle.afdx_law_bounds.specs.Sender.{SenderIsInTime, one_of_each}
+use Rattle.afdx_law_bounds.specs.Tables.{EachSystemIsSender}
 use Rattle.afdx_port.specs.Schedule.{Entry, Turn, IsSchedule, has_turn}
 use Rattle.afdx_port.specs.ScheduleOf.{AreInOrder}
 use Rattle.afdx_send.specs.Complete.{IsFor, HasSentAll, EmitsAll, IsOfTaken, AllIsSent, EmissionsAreOfTaken}

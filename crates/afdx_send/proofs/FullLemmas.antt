@@ -16,10 +16,10 @@ use Rattle.afdx_config.specs.Lawful.{AreDistinct}
 use Rattle.afdx_config.specs.Rows.{LinkRow}
 use Rattle.afdx_police.specs.Stream.{IsRegular}
 use Rattle.afdx_police.specs.Window.{Charged}
-use Rattle.afdx_bounds.specs.Policed.{charged_as, charged_to, IsCharged}
-use Rattle.afdx_bounds.specs.Sender.{AreReleased, SenderIsNeverFull}
-use Rattle.afdx_bounds.specs.Tables.{sent_flow}
-use Rattle.afdx_bounds.proofs.ListLemmas.{all_get}
+use Rattle.afdx_law_bounds.specs.Policed.{charged_as, charged_to, IsCharged}
+use Rattle.afdx_law_bounds.specs.Sender.{AreReleased, SenderIsNeverFull}
+use Rattle.afdx_law_bounds.specs.Tables.{sent_flow}
+use Rattle.afdx_law_bounds.proofs.ListLemmas.{all_get}
 use Rattle.afdx_port.specs.Schedule.{Entry, Turn, IsSchedule, IsLost}
 use Rattle.afdx_port.specs.ScheduleOf.{AreInOrder}
 use Rattle.afdx_send.specs.Emissions.{LinkRelease, own, own_submissions, IsNextOfAll}

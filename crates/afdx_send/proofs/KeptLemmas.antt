@@ -6,7 +6,7 @@ use Rattle.std.proofs.lemmas.Option.{slice_get_within}
 use Rattle.afdx_frame.proofs.ListLemmas.{slice_get-push_cases}
 use Rattle.afdx_config.specs.Admission.{byte_ns}
 use Rattle.afdx_config.specs.Rows.{LinkRow}
-use Rattle.afdx_bounds.specs.Sender.{SenderIsNeverFull}
+use Rattle.afdx_law_bounds.specs.Sender.{SenderIsNeverFull}
 use Rattle.afdx_port.specs.Schedule.{Entry, IsSchedule, IsLost}
 use Rattle.afdx_port.specs.ScheduleOf.{AreInOrder, schedule_of}
 use Rattle.afdx_send.specs.declared.line.Line.{Line}

@@ -11,7 +11,7 @@ use Rattle.afdx_frame.specs.declared.link.Priority.TheVariants.{Low}
 use Rattle.afdx_frame.proofs.ListLemmas.{slice_get-push_last, slice_get-within}
 use Rattle.afdx_config.specs.Admission.{byte_ns}
 use Rattle.afdx_config.specs.Rows.{LinkRow}
-use Rattle.afdx_bounds.specs.Sender.{SenderIsInTime, one_of_each}
+use Rattle.afdx_law_bounds.specs.Sender.{SenderIsInTime, one_of_each}
 use Rattle.afdx_port.specs.History as port
 use Rattle.afdx_port.specs.Schedule.{Entry, Turn, IsNext, AreTurns, has_turn}
 use Rattle.afdx_port.specs.declared.left.Left.{Left}

@@ -17,8 +17,8 @@ use Rattle.afdx_config.specs.Numbers.{after_steps}
 use Rattle.afdx_config.specs.Rows.{SystemRow, LinkRow, Rows}
 use Rattle.afdx_port.specs.Schedule as slots
 use Rattle.afdx_port.specs.declared.left.Left.{Left}
-use Rattle.afdx_bounds.specs.Sender.{one_of_each}
-use Rattle.afdx_bounds.specs.Tables.{EachSystemIsSender, sent_flow}
+use Rattle.afdx_law_bounds.specs.Sender.{one_of_each}
+use Rattle.afdx_law_bounds.specs.Tables.{EachSystemIsSender, sent_flow}
 use Rattle.afdx_config.specs.Flows.{regulation_of_link}
 use Rattle.afdx_frame.specs.Flows.{Flow}
 use Rattle.afdx_frame.specs.Regulation.{jitter}

@@ -17,8 +17,8 @@ use Rattle.afdx_config.specs.LawfulStream.{Sending, IsSent, IsLawfulStream}
 use Rattle.afdx_config.specs.Numbers.{after_steps}
 use Rattle.afdx_config.specs.Rows.{SystemRow, LinkRow}
 use Rattle.afdx_config.specs.SentList.{Message, Sent, sent_at, CanBeSent}
-use Rattle.afdx_bounds.specs.Sender.{SenderIsInTime, one_of_each}
-use Rattle.afdx_bounds.proofs.ListLemmas.{get_all}
+use Rattle.afdx_law_bounds.specs.Sender.{SenderIsInTime, one_of_each}
+use Rattle.afdx_law_bounds.proofs.ListLemmas.{get_all}
 use Rattle.afdx_port.specs.Schedule.{Entry, Turn, AreTurns}
 use Rattle.afdx_send.specs.declared.sender.Emission.{Emission}
 use Rattle.afdx_send.specs.declared.sender_state.SenderState.{SenderState}

@@ -14,8 +14,8 @@ use Rattle.afdx_config.specs.LawfulStream.{Sending}
 use Rattle.afdx_config.specs.Admission.{byte_ns, links_from}
 use Rattle.afdx_config.specs.Lawful.{IsSystem, IsLink, AreDistinct}
 use Rattle.afdx_config.specs.Rows.{SystemRow, LinkRow, Rows}
-use Rattle.afdx_bounds.specs.Sender.{IsSender, one_of_each, sender_buffer}
-use Rattle.afdx_bounds.specs.Tables.{sent_flow}
+use Rattle.afdx_law_bounds.specs.Sender.{IsSender, one_of_each, sender_buffer}
+use Rattle.afdx_law_bounds.specs.Tables.{sent_flow}
 use Rattle.afdx_port.specs.History as port
 use Rattle.afdx_port.specs.Held as held
 use Rattle.afdx_port.specs.Schedule.{Turn, IsSchedule}

@@ -16,8 +16,8 @@ use crate::regulator::Regulator;
 use crate::rooms::Rooms;
 use crate::sender_state::SenderState;
 use afdx_admit::Admitted;
-use afdx_bounds::laws::tables_are_served;
 use afdx_config::{Link, SystemId, Tables};
+use afdx_law_bounds::laws::tables_are_served;
 use afdx_port::Port;
 use std::alloc::{AllocError, Global};
 

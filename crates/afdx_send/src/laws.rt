@@ -6,8 +6,8 @@ ghost use Rattle.afdx_send.specs.Complete.{AllIsSent, EmissionsAreOfTaken};
 ghost use Rattle.afdx_send.specs.Words.{TheRefusalWords};
 
 use crate::released::Released;
-use afdx_bounds::laws::{sender_is_bounded, tables_are_served};
 use afdx_frame::laws::built_is_computed;
+use afdx_law_bounds::laws::{sender_is_bounded, tables_are_served};
 use afdx_port::laws::taken_are_on_schedule;
 
 /// Each emission ends when one frame of each of the system's links could have been sent since its

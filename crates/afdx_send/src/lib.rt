@@ -1,7 +1,7 @@
 //! The sending end system: for each link one message in each gap, round robin over its sub-VLs, and
 //! one output port.
 //!
-//! Its tests are in `afdx_run_tests`.
+//! Its tests are in `afdx_test_runs`.
 #![tactic(auto)]
 
 mod agenda;

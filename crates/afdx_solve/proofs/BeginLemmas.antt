@@ -15,7 +15,7 @@ use Rattle.afdx_config.specs.ChangedSwitches.{changed_switch, bare_link, bare_sw
 use Rattle.afdx_admit.specs.Cascade.{row_at}
 use Rattle.afdx_admit.proofs.CascadeLemmas.{with_tables}
 use Rattle.afdx_solve.specs.declared.options.SolveOptions.{SolveOptions}
-use Rattle.afdx_solve.specs.Solved.{chosen, least_buffer}
+use Rattle.afdx_solve.specs.Solved.{apart_us, chosen, least_buffer}
 use Rattle.afdx_solve.specs.SolvedCascade.{jitter_needed, latency_needed, skew_needed}
 use Rattle.afdx_solve.specs.SolvedCascade.{AreTimesAtMost}
 use Rattle.afdx_solve.specs.Raising.{begun, begun_buffer, begun_links, with_begun_buffer, begun_switch}
@@ -129,9 +129,9 @@ module _ (o : SolveOptions) where
         (latency-some t n).0
 
     skew-below : (ss : List NamedRows) (f : LinkRow) (t : Rows) (k : ℕ) (n : LinkRow) → 1 ≤ n.latency_us
-        → (begun o f).skew_us ≤ chosen o.kept.skew o.raise_only f.skew_us (skew_needed ss t (row_at k n))
-    skew-below ss f t k n some = chosen-rises o.kept.skew o.raise_only f.skew_us 1 (skew_needed ss t (row_at k n))
-        (skew-some ss t (row_at k n) some).0
+        → (begun o f).skew_us ≤ chosen o.kept.skew o.raise_only f.skew_us (skew_needed (apart_us o) ss t (row_at k n))
+    skew-below ss f t k n some = chosen-rises o.kept.skew o.raise_only f.skew_us 1
+        (skew_needed (apart_us o) ss t (row_at k n)) (skew-some o ss t (row_at k n) some).0
 
     buffer-below : (f t : Rows) → begun_buffer o f.buffer ≤ chosen o.kept.buffer o.raise_only f.buffer (least_buffer t)
     buffer-below f t = chosen-rises o.kept.buffer o.raise_only f.buffer least_frame (least_buffer t) (omega arith)

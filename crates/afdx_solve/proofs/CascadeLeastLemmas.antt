@@ -28,10 +28,11 @@ use Rattle.afdx_admit.proofs.OutputLemmas.{left_some_at, rates_some}
 use Rattle.afdx_admit.proofs.SmallLemmas.{is_rate}
 use Rattle.afdx_admit.proofs.CascadeLemmas.{with_tables}
 use Rattle.afdx_solve.specs.declared.options.SolveOptions.{SolveOptions}
-use Rattle.afdx_solve.specs.Solved.{chosen, least_buffer, least_jitter, delay_to}
+use Rattle.afdx_solve.specs.Solved.{chosen, least_buffer, least_jitter, delay_to, apart_us}
 use Rattle.afdx_solve.specs.SolvedCascade.{late_before, jitter_needed, latency_needed, skew_needed, way_to_system}
 use Rattle.afdx_solve.specs.SolvedCascade.{IsSolution, IsEnough, AreTimesAtMost, AreAtMost}
 use Rattle.afdx_solve.specs.SolvedCascade.{IsLeastSolution, MayBecome, CascadeIsLeast, LeastIsOne}
+use Rattle.afdx_solve.specs.SolvedCascade.{AdmittedAllow}
 use Rattle.afdx_solve.specs.Raising.{IsRising, IsSettledAt}
 use Rattle.afdx_solve.proofs.LeastLemmas.{div_ceil-least, jitter_at-stands, need-least, needs-least, delay-least}
 use Rattle.afdx_solve.proofs.LeastLemmas.{latency_over-least, low_stands}
@@ -61,7 +62,7 @@ settled-least o file ss h settled = record {
           latency = settled-takes o.kept.latency o.raise_only f.latency_us 1 l.latency_us
               (latency_needed t l) from.latency to.latency s.latency;
           skew = settled-takes o.kept.skew o.raise_only f.skew_us 1 l.skew_us
-              (skew_needed ss t (row_at k l)) from.skew to.skew s.skew;
+              (skew_needed (apart_us o) ss t (row_at k l)) from.skew to.skew s.skew;
         };
   };
   least = h.least;
@@ -213,33 +214,45 @@ module _ (ss : List NamedRows) (are : AreSwitches ss) (h : IsCascadeAdmitted ss)
           subst (λ w. unwrap_or w 0 ≤ l.skew_us) (sym x.way) (x.skew goes)
     ]
 
-    skew-enough : skew_needed ss t (row_at k l) ≤ l.skew_us
-    unfolding skew_needed
-    skew-enough =
-        let way : way_to_system ss t (row_at k l) ≤ l.skew_us = by (goes_to_system t l) way-enough in
-        omega (arith, way, admitted.skews i l row)
+    -- copies that are sent at equal times
+    way-allows : (o : SolveOptions) → o.apart ≡ 0 → way_to_system (apart_us o) ss t (row_at k l) ≤ l.skew_us
+    way-allows o none =
+        let nothing : apart_us o ≤ 0 = div_ceil-least o.apart 1000 0 (omega arith) (omega (arith, none)) in
+        by (goes_to_system t l) nothing way-enough
       where
-        by : (b : Bool) → (b ≡ true → unwrap_or (way_latency ss (row_at k l)) 0 ≤ l.skew_us)
-            → (if b then unwrap_or (way_latency ss (row_at k l)) 0 else 0) ≤ l.skew_us
-        by true h = h refl
-        by false h = omega arith
+        by : (b : Bool) → apart_us o ≤ 0 → (b ≡ true → unwrap_or (way_latency ss (row_at k l)) 0 ≤ l.skew_us)
+            → (if b then unwrap_or (way_latency ss (row_at k l)) 0 + apart_us o else 0) ≤ l.skew_us
+        by true nothing h = omega (arith, nothing, h refl)
+        by false nothing h = omega arith
+
+    skew-enough : (o : SolveOptions) → way_to_system (apart_us o) ss t (row_at k l) ≤ l.skew_us
+        → skew_needed (apart_us o) ss t (row_at k l) ≤ l.skew_us
+    unfolding skew_needed
+    skew-enough o way = omega (arith, way, admitted.skews i l row)
+
+pub admitted-allow : AdmittedAllow
+admitted-allow o ss none are h = record {
+  admitted = h;
+  apart = λ k i t l at row. way-allows ss are h k t at i l row o none;
+}
 
 pub cascade-least : CascadeIsLeast
-cascade-least o file solved others least are admitted may = least.least others (record {
+cascade-least o file solved others least are h may = least.least others (record {
   alike = may.alike;
   buffers = λ k f t at at'.
       may-take o.kept.buffer o.raise_only f.buffer t.buffer (least_buffer t) (may.buffers k f t at at')
-      (buffer-enough others are admitted k t at');
+      (buffer-enough others are h.admitted k t at');
   times = λ k i t f l at row row'.
       let m = may.times k i f l row (link-at others k i t l at row') in
       record {
         jitter = may-take o.kept.jitter o.raise_only f.jitter_us l.jitter_us (jitter_needed others t (row_at k l))
             m.jitter
-            (jitter-enough others are admitted k t at i l row');
+            (jitter-enough others are h.admitted k t at i l row');
         latency = may-take o.kept.latency o.raise_only f.latency_us l.latency_us (latency_needed t l) m.latency
-            (latency-enough others are admitted k t at i l row');
-        skew = may-take o.kept.skew o.raise_only f.skew_us l.skew_us (skew_needed others t (row_at k l)) m.skew
-            (skew-enough others are admitted k t at i l row');
+            (latency-enough others are h.admitted k t at i l row');
+        skew = may-take o.kept.skew o.raise_only f.skew_us l.skew_us
+            (skew_needed (apart_us o) others t (row_at k l)) m.skew
+            (skew-enough others are h.admitted k t at i l row' o (h.apart k i t l at row'));
       };
 })
 

@@ -80,7 +80,8 @@ module _ (own systems : ℕ) (link : LinkRow) (h : IsLinkAmong own systems link)
           lmax = h.link.lmax;
           jitter_us = h.link.jitter_us;
           latency_us = latency;
-          skew_us = chosen-within o.kept.skew o.raise_only 1 greatest_delay link.skew_us _ h.link.skew_us latency;
+          skew_us = chosen-within o.kept.skew o.raise_only 1 greatest_delay link.skew_us _ h.link.skew_us
+              (omega (arith, latency.0), omega arith);
           subs = h.link.subs;
         };
         sent = h.sent;

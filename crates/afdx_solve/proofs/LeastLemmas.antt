@@ -23,7 +23,7 @@ use Rattle.afdx_admit.proofs.OutputLemmas.{left_some_at, rates_some}
 use Rattle.afdx_admit.proofs.SmallLemmas.{is_rate}
 use Rattle.afdx_solve.specs.declared.options.SolveOptions.{SolveOptions}
 use Rattle.afdx_solve.specs.Solved.{chosen, keeps_jitter, with_jitter, with_jitters, need_to, greatest_need, least_buffer, with_least_buffer}
-use Rattle.afdx_solve.specs.Solved.{in_us, delay_to, latency_over, with_delay, with_delays, solved}
+use Rattle.afdx_solve.specs.Solved.{apart_us, least_skew, in_us, delay_to, latency_over, with_delay, with_delays, solved}
 use Rattle.afdx_solve.specs.Laws.{AreLeastJitters, IsLeastBuffer, IsInTime, AreLeastLatencies, AreLeastSkews}
 use Rattle.afdx_solve.proofs.DelayLemmas.{delay-stands}
 use Rattle.afdx_solve.proofs.SameLemmas.{jitter-with_jitter, jitter-with_delay, burst-same, high_load-same, high_wait-same, low_wait-same}
@@ -253,10 +253,10 @@ least_latencies o t keep raise lawful admitted = λ i l at us some soon.
 -- ---- skews
 
 pub least_skews : (o : SolveOptions) (t : Rows) → o.kept.skew ≡ false → o.raise_only ≡ false
-    → AreLeastSkews (with_delays o t)
+    → AreLeastSkews (apart_us o) (with_delays o t)
 unfolding with_delays
 least_skews o t keep raise = λ i l at us room.
     let f = with_delay o t in
     let x = mapped f t.links i l at in
-    let taken = chosen-least o.kept.skew o.raise_only x.0.skew_us (f x.0).latency_us keep raise in
+    let taken = chosen-least o.kept.skew o.raise_only x.0.skew_us (least_skew o (f x.0).latency_us) keep raise in
     omega (arith, ap (λ r. r.latency_us) x.2, ap (λ r. r.skew_us) x.2, taken, room)

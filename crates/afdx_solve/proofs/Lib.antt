@@ -9,6 +9,7 @@ pub mod LoopLemmas
 pub mod BeginLemmas
 pub mod CascadeLeastLemmas
 pub mod FitLemmas
+pub mod ShortLemmas
 pub mod SolvableLemmas
 pub mod LeastLemmas
 pub mod SameLemmas

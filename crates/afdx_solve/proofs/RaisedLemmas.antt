@@ -16,7 +16,7 @@ use Rattle.afdx_config.proofs.ChangedSwitchesLemmas.{alike-changed, bare-times}
 use Rattle.afdx_admit.specs.Cascade.{RowAt, row_at}
 use Rattle.afdx_admit.specs.Lines.{jitter_at}
 use Rattle.afdx_solve.specs.declared.options.SolveOptions.{SolveOptions}
-use Rattle.afdx_solve.specs.Solved.{chosen, least_buffer, latency_over, delay_to, least_jitter}
+use Rattle.afdx_solve.specs.Solved.{chosen, least_buffer, latency_over, delay_to, least_jitter, apart_us}
 use Rattle.afdx_solve.specs.SolvedCascade.{jitter_needed, latency_needed, skew_needed, late_before}
 use Rattle.afdx_solve.specs.SolvedCascade.{AreAtMost, AreTimesAtMost, TimesTake}
 use Rattle.afdx_solve.specs.Raising.{IsRising, left_of, Raises, raised_times, IsMoreIn, AreTimesSettled, AreDelaysBy}
@@ -50,28 +50,29 @@ pub latency-some : (t : Rows) (l : LinkRow) → IsWithin 1 greatest_delay (laten
 unfolding latency_needed
 latency-some t l = (omega (arith, latency_over-some (delay_to t l.priority) l.to), omega arith)
 
-pub skew-some : (ss : List NamedRows) (t : Rows) (r : RowAt) → 1 ≤ r.row.latency_us
-    → IsWithin 1 greatest_delay (skew_needed ss t r)
+pub skew-some : (o : SolveOptions) (ss : List NamedRows) (t : Rows) (r : RowAt) → 1 ≤ r.row.latency_us
+    → IsWithin 1 greatest_delay (skew_needed (apart_us o) ss t r)
 unfolding skew_needed
-skew-some ss t r some = (omega (arith, some), omega arith)
+skew-some o ss t r some = (omega (arith, some), omega arith)
 
 -- ---- a row
 
 -- these times are at most what the row needs
-pub record AreNeeded (ss : List NamedRows) (t : Rows) (k : ℕ) (l : LinkRow) (needed : Times) : Type 0 where
+pub record AreNeeded (o : SolveOptions) (ss : List NamedRows) (t : Rows) (k : ℕ) (l : LinkRow)
+    (needed : Times) : Type 0 where
   pub jitter : needed.jitter_us ≤ jitter_needed ss t (row_at k l)
   pub latency : needed.latency_us ≤ latency_needed t l
   pub latency_some : 1 ≤ needed.latency_us
-  pub skew : needed.skew_us ≤ skew_needed ss t (row_at k l)
+  pub skew : needed.skew_us ≤ skew_needed (apart_us o) ss t (row_at k l)
   pub skew_some : 1 ≤ needed.skew_us
 
 pub raised-lawful : (o : SolveOptions) (ss : List NamedRows) (t : Rows) (k : ℕ) (l : LinkRow) (needed : Times)
-    → IsLinkAmong t.own (length t.systems) l → AreNeeded ss t k l needed
+    → IsLinkAmong t.own (length t.systems) l → AreNeeded o ss t k l needed
     → IsLinkAmong t.own (length t.systems) (with_times (raised_times o needed l) l)
 raised-lawful o ss t k l needed h n =
     let any = jitter-any ss t (row_at k l) in
     let latency = latency-some t l in
-    let skew = skew-some ss t (row_at k l) h.link.latency_us.0 in
+    let skew = skew-some o ss t (row_at k l) h.link.latency_us.0 in
     record {
       link = record {
         vl = h.link.vl;
@@ -114,7 +115,7 @@ left-less l times h j la s more = elim more [
 ]
 
 module _ (o : SolveOptions) (ss : List NamedRows) (k i : ℕ) (t : Rows) (l : LinkRow) (at : tables_at ss k ≡ Some t)
-    (row : slice_get t.links i ≡ Some l) (needed : Times) (n : AreNeeded ss t k l needed) where
+    (row : slice_get t.links i ≡ Some l) (needed : Times) (n : AreNeeded o ss t k l needed) where
   abbrev times : Times
   times = raised_times o needed l
 
@@ -163,7 +164,7 @@ module _ (o : SolveOptions) (ss : List NamedRows) (k i : ℕ) (t : Rows) (l : Li
           latency = raised-takes o.kept.latency o.raise_only f.latency_us l.latency_us needed.latency_us
               (latency_needed t l) x.latency n.latency;
           skew = raised-takes o.kept.skew o.raise_only f.skew_us l.skew_us needed.skew_us
-              (skew_needed ss t (row_at k l)) x.skew n.skew;
+              (skew_needed (apart_us o) ss t (row_at k l)) x.skew n.skew;
         }
 
     taken : AreTaken o file ss new
@@ -223,7 +224,7 @@ module _ (o : SolveOptions) (ss : List NamedRows) (k i : ℕ) (t : Rows) (l : Li
 pub times-settled : (o : SolveOptions) (ss : List NamedRows) (t : Rows) (k : ℕ) (l : LinkRow) (needed : Times)
     → AreTimesAtMost (with_times (raised_times o needed l) l) l
     → needed.jitter_us ≡ jitter_needed ss t (row_at k l) → needed.latency_us ≡ latency_needed t l
-    → needed.skew_us ≡ skew_needed ss t (row_at k l) → AreTimesSettled o ss t k l
+    → needed.skew_us ≡ skew_needed (apart_us o) ss t (row_at k l) → AreTimesSettled o ss t k l
 times-settled o ss t k l needed h j la s = record {
   jitter = subst (λ n. chosen o.kept.jitter true l.jitter_us n ≤ l.jitter_us) j h.jitter;
   latency = subst (λ n. chosen o.kept.latency true l.latency_us n ≤ l.latency_us) la h.latency;
@@ -325,12 +326,12 @@ unfolding latency_over
 latency_over-within f g count each [] h = omega arith
 latency_over-within f g count each (p ∷ ps) h = omega (arith, each p h.0, latency_over-within f g count each ps h.1)
 
-module _ (ss : List NamedRows) (t : Rows) (k : ℕ) (l : LinkRow) (needed : Times) (d : Delays)
+module _ (o : SolveOptions) (ss : List NamedRows) (t : Rows) (k : ℕ) (l : LinkRow) (needed : Times) (d : Delays)
     (lawful : IsLinkUpTo jitter_from_any (length t.systems) l)
     (jitter : needed.jitter_us ≡ jitter_needed ss t (row_at k l))
     (latency : needed.latency_us ≡ min greatest_delay (latency_over (slice_index (of_class l.priority d)) l.to))
-    (skew : needed.skew_us ≡ skew_needed ss t (row_at k l)) where
-  pub needed-are : AreDelaysBy (λ kept needs. kept ≤ needs) t d → AreNeeded ss t k l needed
+    (skew : needed.skew_us ≡ skew_needed (apart_us o) ss t (row_at k l)) where
+  pub needed-are : AreDelaysBy (λ kept needs. kept ≤ needs) t d → AreNeeded o ss t k l needed
   unfolding latency_needed
   needed-are below =
       let over = latency_over-within (slice_index (of_class l.priority d)) (delay_to t l.priority) (length t.systems)
@@ -340,13 +341,13 @@ module _ (ss : List NamedRows) (t : Rows) (k : ℕ) (l : LinkRow) (needed : Time
         latency = omega (arith, latency, over);
         latency_some = omega (arith, latency, latency_over-some (slice_index (of_class l.priority d)) l.to);
         skew = omega (arith, skew);
-        skew_some = omega (arith, skew, (skew-some ss t (row_at k l) lawful.latency_us.0).0);
+        skew_some = omega (arith, skew, (skew-some o ss t (row_at k l) lawful.latency_us.0).0);
       }
 
-  pub row-settled : (o : SolveOptions) → AreTimesAtMost (with_times (raised_times o needed l) l) l
+  pub row-settled : AreTimesAtMost (with_times (raised_times o needed l) l) l
       → AreDelaysBy (λ kept needs. kept ≡ needs) t d → AreTimesSettled o ss t k l
   unfolding latency_needed
-  row-settled o h exact =
+  row-settled h exact =
       times-settled o ss t k l needed h jitter
       (latency ∙ ap (min greatest_delay) (latency_over-same (slice_index (of_class l.priority d))
       (delay_to t l.priority)

@@ -12,7 +12,7 @@ use Rattle.afdx_config.specs.ChangedSwitches.{changed_switch, with_times_at, wit
 use Rattle.afdx_admit.specs.Cascade.{row_at}
 use Rattle.afdx_admit.proofs.CascadeLemmas.{with_tables}
 use Rattle.afdx_solve.specs.declared.options.SolveOptions.{SolveOptions}
-use Rattle.afdx_solve.specs.Solved.{chosen, least_buffer}
+use Rattle.afdx_solve.specs.Solved.{apart_us, chosen, least_buffer}
 use Rattle.afdx_solve.specs.SolvedCascade.{jitter_needed, latency_needed, skew_needed}
 use Rattle.afdx_solve.specs.SolvedCascade.{AreAtMost, AreTimesAtMost}
 use Rattle.afdx_solve.specs.Raising.{begun, IsNoLessThanBegun, IsRising, left_of, left_at, left, Raises}
@@ -58,7 +58,7 @@ times-trans l m n d e = record {
 pub record NeedsRise (a b : List NamedRows) (t u : Rows) (k : ℕ) (l m : LinkRow) : Type 0 where
   pub jitter : jitter_needed a t (row_at k l) ≤ jitter_needed b u (row_at k m)
   pub latency : latency_needed t l ≤ latency_needed u m
-  pub skew : skew_needed a t (row_at k l) ≤ skew_needed b u (row_at k m)
+  pub skew : (o : SolveOptions) → skew_needed (apart_us o) a t (row_at k l) ≤ skew_needed (apart_us o) b u (row_at k m)
 
 module _ (a b : List NamedRows) (alike : AreAlike a b) (more : AreAtMost a b) (k : ℕ) (t u : Rows)
     (at : tables_at a k ≡ Some t) (at' : tables_at b k ≡ Some u) where
@@ -80,7 +80,7 @@ module _ (a b : List NamedRows) (alike : AreAlike a b) (more : AreAtMost a b) (k
       record {
         jitter = jitter-rises a b alike all t u rows-rise (row_at k l) (row_at k m) there;
         latency = latency-rises t u rows-rise l m rises;
-        skew = skew-rises a b alike all t u rows-rise (row_at k l) (row_at k m) there;
+        skew = λ o. skew-rises a b alike all t u rows-rise (row_at k l) (row_at k m) there o;
       }
 
 -- ---- a step
@@ -89,7 +89,7 @@ pub record TimesTaken (o : SolveOptions) (old : List NamedRows) (s : Rows) (f : 
     (l m : LinkRow) : Type 0 where
   pub jitter : m.jitter_us ≤ chosen o.kept.jitter o.raise_only f.jitter_us (jitter_needed old s (row_at k l))
   pub latency : m.latency_us ≤ chosen o.kept.latency o.raise_only f.latency_us (latency_needed s l)
-  pub skew : m.skew_us ≤ chosen o.kept.skew o.raise_only f.skew_us (skew_needed old s (row_at k l))
+  pub skew : m.skew_us ≤ chosen o.kept.skew o.raise_only f.skew_us (skew_needed (apart_us o) old s (row_at k l))
 
 -- each key of the new switches is at most what it takes by the old ones
 pub record AreTaken (o : SolveOptions) (file old new : List NamedRows) : Type 0 where
@@ -149,7 +149,8 @@ module _ (o : SolveOptions) (file old new : List NamedRows) (h : IsRising o file
             arith,
             x.skew,
             chosen-rises o.kept.skew o.raise_only f.skew_us
-                (skew_needed old s.0 (row_at k l.0)) (skew_needed others v (row_at k n)) y.skew,
+                (skew_needed (apart_us o) old s.0 (row_at k l.0))
+                (skew_needed (apart_us o) others v (row_at k n)) (y.skew o),
           );
         }
 

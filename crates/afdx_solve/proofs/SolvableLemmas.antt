@@ -1,5 +1,5 @@
 -- Where any values that the keys may have are admitted, the least solution is.
-use Rattle.std.proofs.Common.{◌≡◌, inl, inr, ◌⊎◌, ℕ, ◌*◌, ◌-◌, ◌<◌, ◌≤◌, min, max, Bool, true, false}
+use Rattle.std.proofs.Common.{◌≡◌, inl, inr, ◌⊎◌, ℕ, ◌+◌, ◌*◌, ◌-◌, ◌<◌, ◌≤◌, min, max, Bool, true, false}
 use Rattle.std.proofs.Common.{List, length, Option, Some, None, slice_get, nat_lt, if◌then◌else◌}
 use Rattle.std.proofs.Common.{refl, sym, ap, ◌∙◌, subst, arith, Contains, option_map, option_and_then}
 use Rattle.std.specs.Int.{div_ceil}
@@ -21,13 +21,13 @@ use Rattle.afdx_config.specs.AtSwitch.{tables_at}
 use Rattle.afdx_config.specs.ChangedSwitches.{bare, AreAlike}
 use Rattle.afdx_admit.specs.Lines.{jitter_at}
 use Rattle.afdx_solve.specs.declared.options.SolveOptions.{SolveOptions}
-use Rattle.afdx_solve.specs.Solved.{least_buffer, least_jitter, delay_to, greatest_need}
+use Rattle.afdx_solve.specs.Solved.{least_buffer, least_jitter, delay_to, greatest_need, apart_us}
 use Rattle.afdx_admit.specs.Cascade.{RowAt, row_at, row_of, row_before, way_latency, late_behind, same_contract}
 use Rattle.afdx_admit.specs.Cascade.{goes_to_system, is_neighbour, comes_from, reads_at, reads, IsHop, IsCascadeAdmitted}
 use Rattle.afdx_admit.proofs.OutputLemmas.{left_some_at, rates_some}
 use Rattle.afdx_admit.proofs.SmallLemmas.{is_rate}
 use Rattle.afdx_solve.specs.SolvedCascade.{late_before, jitter_needed, latency_needed, skew_needed, way_to_system, AreAtMost}
-use Rattle.afdx_solve.specs.SolvedCascade.{MayStandFor, IsLeastSolution, LeastIsAdmitted}
+use Rattle.afdx_solve.specs.SolvedCascade.{MayStandFor, IsAdmittedApart, IsLeastSolution, LeastIsAdmitted}
 use Rattle.afdx_solve.proofs.LeastLemmas.{jitter_at-stands, low_stands}
 use Rattle.afdx_solve.proofs.ZipLemmas.{OptionZip, zip-get, zip-there, zip-back, zip-test}
 use Rattle.afdx_solve.proofs.WayRiseLemmas.{SwitchRises, RowAtRises, all-rise, row_of-rises, before-rises, way-rises}
@@ -89,10 +89,13 @@ module _ (a b : List NamedRows) (alike : AreAlike a b) (rise : AllZip SwitchRise
 -- ---- a switch, of those that are solved for, and of others
 
 module _ (o : SolveOptions) (file solved others : List NamedRows) (least : IsLeastSolution o file solved)
-    (fine : AreSwitches solved) (are : AreSwitches others) (h : IsCascadeAdmitted others)
+    (fine : AreSwitches solved) (are : AreSwitches others) (allowed : IsAdmittedApart o others)
     (may : MayStandFor o file others) where
+  h : IsCascadeAdmitted others
+  h = allowed.admitted
+
   more : AreAtMost solved others
-  more = cascade-least o file solved others least are h may
+  more = cascade-least o file solved others least are allowed may
 
   alike : AreAlike solved others
   alike = sym least.solution.alike ∙ may.alike
@@ -148,7 +151,7 @@ module _ (o : SolveOptions) (file solved others : List NamedRows) (least : IsLea
       link_u : IsLinkUpTo jitter_from_any (length u.systems) m
       jitter : (l.jitter_us ≡ m.jitter_us) ⊎ (jitter_needed solved t (row_at k l) ≤ l.jitter_us)
       latency : (l.latency_us ≡ m.latency_us) ⊎ (latency_needed t l ≤ l.latency_us)
-      skew : (l.skew_us ≡ m.skew_us) ⊎ (skew_needed solved t (row_at k l) ≤ l.skew_us)
+      skew : (l.skew_us ≡ m.skew_us) ⊎ (skew_needed (apart_us o) solved t (row_at k l) ≤ l.skew_us)
 
     row-of : (i : ℕ) (l : LinkRow) → slice_get t.links i ≡ Some l → Row i l
     row-of i l row =
@@ -171,7 +174,7 @@ module _ (o : SolveOptions) (file solved others : List NamedRows) (least : IsLea
               m.0.jitter_us x.jitter y.jitter;
           latency = kept-or o.kept.latency o.raise_only g.0.latency_us (latency_needed t l) l.latency_us
               m.0.latency_us x.latency y.latency;
-          skew = kept-or o.kept.skew o.raise_only g.0.skew_us (skew_needed solved t (row_at k l)) l.skew_us
+          skew = kept-or o.kept.skew o.raise_only g.0.skew_us (skew_needed (apart_us o) solved t (row_at k l)) l.skew_us
               m.0.skew_us x.skew y.skew;
         }
 
@@ -322,9 +325,9 @@ module _ (o : SolveOptions) (file solved others : List NamedRows) (least : IsLea
               elim x.skew [
                 | inl is ↦ omega (arith, is, way.2, other.skew goes_u)
                 | inr enough ↦
-                    let sum : way_to_system solved t (row_at k l) ≡ way.0 =
-                    ap (λ b. if b then unwrap_or (way_latency solved (row_at k l)) 0 else 0) goes
-                    ∙ ap (λ w. unwrap_or w 0) way.1 in
+                    let sum : way_to_system (apart_us o) solved t (row_at k l) ≡ way.0 + apart_us o =
+                    ap (λ b. if b then unwrap_or (way_latency solved (row_at k l)) 0 + apart_us o else 0) goes
+                    ∙ ap (λ w. unwrap_or w 0 + apart_us o) way.1 in
                     omega (arith, enough, sum, way.2, other.skew goes_u, x.link_u.skew_us.1)
               ];
         }
@@ -355,4 +358,5 @@ module _ (o : SolveOptions) (file solved others : List NamedRows) (least : IsLea
   }
 
 pub least-admitted : LeastIsAdmitted
-least-admitted o file solved others fine least are h may = all-fit o file solved others least fine are h may
+least-admitted o file solved others fine least are allowed may =
+    all-fit o file solved others least fine are allowed may

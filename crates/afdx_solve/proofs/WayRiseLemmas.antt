@@ -13,7 +13,8 @@ use Rattle.afdx_config.proofs.BareLemmas.{link_of-bare, switch_named-bare}
 use Rattle.afdx_admit.specs.Cascade.{RowAt, row_at, row_of, neighbour_of, goes_towards, row_towards, row_from, row_before}
 use Rattle.afdx_admit.specs.Cascade.{is_sent_here, latency_within, way_latency, late_behind, goes_to_system}
 use Rattle.afdx_admit.specs.Lines.{jitter_at}
-use Rattle.afdx_solve.specs.Solved.{least_jitter}
+use Rattle.afdx_solve.specs.declared.options.SolveOptions.{SolveOptions}
+use Rattle.afdx_solve.specs.Solved.{apart_us, least_jitter}
 use Rattle.afdx_solve.specs.SolvedCascade.{AreAtMost, late_before, jitter_needed, skew_needed, way_to_system}
 use Rattle.afdx_solve.proofs.ZipLemmas.{OptionZip, zip-get, zip-then, zip-map, zip-or, zip-from, zip-unwrap}
 use Rattle.afdx_solve.proofs.RiseLemmas.{LinkRises, RowsRise, jitter_at-same}
@@ -225,15 +226,18 @@ module _ (a b : List NamedRows) (alike : AreAlike a b) (rise : AllZip SwitchRise
         by true one two = one
         by false one two = two
 
-    pub skew-rises : skew_needed a t r ≤ skew_needed b u q
+    pub skew-rises : (o : SolveOptions) → skew_needed (apart_us o) a t r ≤ skew_needed (apart_us o) b u q
     unfolding skew_needed
-    skew-rises =
+    skew-rises o =
         let goes : goes_to_system t r.row ≡ goes_to_system u q.row =
         ap (λ (l : LinkRow). goes_to_system t l) h.row.bare ∙ ap (λ (x : Rows). goes_to_system x q.row) rows.bare in
         let way = zip-unwrap (way_latency a r) (way_latency b q) (way-rises r q h) in
-        let whole : way_to_system a t r ≤ way_to_system b u q =
-        subst (λ c. way_to_system a t r ≤ (if c then unwrap_or (way_latency b q) 0 else 0)) goes
-        (by (goes_to_system t r.row) way) in
+        let more : unwrap_or (way_latency a r) 0 + apart_us o ≤ unwrap_or (way_latency b q) 0 + apart_us o =
+        omega (arith, way) in
+        let whole : way_to_system (apart_us o) a t r ≤ way_to_system (apart_us o) b u q =
+        subst (λ c. way_to_system (apart_us o) a t r
+        ≤ (if c then unwrap_or (way_latency b q) 0 + apart_us o else 0)) goes
+        (by (goes_to_system t r.row) more) in
         omega (arith, whole, h.row.times.latency)
       where
         by : (c : Bool) {x y : ℕ} → x ≤ y → (if c then x else 0) ≤ (if c then y else 0)

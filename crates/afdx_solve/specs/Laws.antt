@@ -1,5 +1,5 @@
 -- What is true of a solution: no smaller value does.
-use Rattle.std.specs.Prelude.{◌≡◌, ℕ, ◌*◌, ◌-◌, ◌≤◌, true, false, List, slice_get, Some}
+use Rattle.std.specs.Prelude.{◌≡◌, ℕ, ◌+◌, ◌*◌, ◌-◌, ◌≤◌, true, false, List, slice_get, Some}
 use Rattle.afdx_frame.specs.declared.link.Priority.{Priority}
 use Rattle.afdx_frame.specs.declared.link.Priority.TheVariants.{High, Low}
 use Rattle.afdx_frame.specs.Lengths.{least_frame}
@@ -9,7 +9,7 @@ use Rattle.afdx_config.specs.Rows.{SystemRow, LinkRow, Rows, is_to}
 use Rattle.afdx_config.specs.Lawful.{IsLawful}
 use Rattle.afdx_config.specs.Admission.{IsAdmitted, byte_ns, flows_to, links_from, sender_jitter}
 use Rattle.afdx_solve.specs.declared.options.SolveOptions.{SolveOptions}
-use Rattle.afdx_solve.specs.Solved.{solved}
+use Rattle.afdx_solve.specs.Solved.{apart_us, solved}
 
 -- no smaller jitter of a link allows for its sender's
 abbrev pub AreLeastJitters : Rows → Type 0
@@ -49,13 +49,13 @@ AreLeastLatencies t =
     IsInTime (byte_ns s) (flows_to t.links place) l.priority (1000 * us)) →
     l.latency_us ≤ us
 
--- no smaller skew has room for the latency
-abbrev pub AreLeastSkews : Rows → Type 0
-AreLeastSkews t =
+-- no smaller skew has room for the latency and so many us more
+abbrev pub AreLeastSkews : (apart_us : ℕ) → Rows → Type 0
+AreLeastSkews apart_us t =
     (i : ℕ) (l : LinkRow) →
     slice_get t.links i ≡ Some l →
     (us : ℕ) →
-    l.latency_us ≤ us →
+    l.latency_us + apart_us ≤ us →
     l.skew_us ≤ us
 
 -- of the keys that aren't kept
@@ -63,7 +63,7 @@ pub record IsLeast (o : SolveOptions) (t : Rows) : Type 0 where
   pub jitters : o.kept.jitter ≡ false → AreLeastJitters t
   pub buffer : o.kept.buffer ≡ false → IsLeastBuffer t
   pub latencies : o.kept.latency ≡ false → AreLeastLatencies t
-  pub skews : o.kept.skew ≡ false → AreLeastSkews t
+  pub skews : o.kept.skew ≡ false → AreLeastSkews (apart_us o) t
 
 abbrev pub EachIsLeast : Type 0
 EachIsLeast =

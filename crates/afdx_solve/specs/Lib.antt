@@ -1,4 +1,5 @@
 pub mod Solved
+pub mod Short
 pub mod SolvedCascade
 pub mod Delays
 pub mod Raising

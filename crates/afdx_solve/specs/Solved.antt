@@ -1,7 +1,7 @@
 -- The least values of four keys with which tables are admitted: each link's jitter from its sender,
 -- then the buffer, then each link's latency from the bounds at all its ports, then its skew; each
 -- from those before it.
-use Rattle.std.specs.Prelude.{ℕ, zero, suc, min, max, Bool, List, [], ◌∷◌, length, map, Option}
+use Rattle.std.specs.Prelude.{ℕ, zero, suc, ◌+◌, min, max, Bool, List, [], ◌∷◌, length, map, Option}
 use Rattle.std.specs.Prelude.{Some, None, slice_get, if◌then◌else◌, ◌||◌, not, nat_lt}
 use Rattle.std.specs.Int.{div_ceil}
 use Rattle.std.specs.Option.{option_map_or}
@@ -82,13 +82,20 @@ unfoldable pub latency_over : (ℕ → ℕ) → List ℕ → ℕ
 latency_over delay [] = 1
 latency_over delay (place ∷ places) = max (delay place) (latency_over delay places)
 
--- where so many us are needed; the least skew is the latency
+-- by so many us a skew is more than the latency: copies may be sent so far apart
+abbrev pub apart_us : SolveOptions → ℕ
+apart_us o = div_ceil o.apart 1000
+
+abbrev pub least_skew : SolveOptions → (latency : ℕ) → ℕ
+least_skew o latency = min greatest_delay (latency + apart_us o)
+
+-- where so many us are needed
 abbrev pub with_delays_for : SolveOptions → ℕ → LinkRow → LinkRow
 with_delays_for o needed l =
     let latency = chosen o.kept.latency o.raise_only l.latency_us (min greatest_delay needed) in
     record l {
       latency_us = latency;
-      skew_us = chosen o.kept.skew o.raise_only l.skew_us latency;
+      skew_us = chosen o.kept.skew o.raise_only l.skew_us (least_skew o latency);
     }
 
 abbrev pub with_delay : SolveOptions → Rows → LinkRow → LinkRow

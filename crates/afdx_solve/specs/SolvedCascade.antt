@@ -2,7 +2,7 @@
 -- and the skew of each row, and the buffer of each switch. What a key needs rests on others: a
 -- jitter after a cable on the latency before it, a latency on the jitters of all that shares its
 -- ports, a skew on the latencies of its way.
-use Rattle.std.specs.Prelude.{◌≡◌, ℕ, ◌≤◌, min, max, Bool, true, false, List, Some, slice_get}
+use Rattle.std.specs.Prelude.{◌≡◌, ℕ, ◌+◌, ◌≤◌, min, max, Bool, true, false, List, Some, slice_get}
 use Rattle.std.specs.Prelude.{if◌then◌else◌, nat_lt}
 use Rattle.std.specs.Option.{option_map_or, unwrap_or}
 use Rattle.afdx_config.specs.Rows.{LinkRow, Rows}
@@ -16,6 +16,7 @@ use Rattle.afdx_admit.specs.Cascade.{RowAt, row_at, row_before, way_latency, lat
 use Rattle.afdx_admit.specs.Cascade.{goes_to_system, IsCascadeAdmitted}
 use Rattle.afdx_solve.specs.declared.options.SolveOptions.{SolveOptions}
 use Rattle.afdx_solve.specs.Solved.{chosen, least_jitter, delay_to, latency_over, least_buffer}
+use Rattle.afdx_solve.specs.Solved.{apart_us}
 
 -- ---- what a row needs, with the values that the switches have; times are in us
 
@@ -37,15 +38,16 @@ jitter_needed switches t r =
 unfoldable pub latency_needed : Rows → LinkRow → ℕ
 latency_needed t l = min greatest_delay (latency_over (delay_to t l.priority) l.to)
 
--- how late a frame may be on its way to a system of this switch
-abbrev pub way_to_system : List NamedRows → Rows → RowAt → ℕ
-way_to_system switches t r =
-    if goes_to_system t r.row then unwrap_or (way_latency switches r) 0 else 0
+-- how far apart copies may come to a system of this switch: by the way, and by how far apart they
+-- may be sent
+abbrev pub way_to_system : (apart : ℕ) → List NamedRows → Rows → RowAt → ℕ
+way_to_system apart switches t r =
+    if goes_to_system t r.row then unwrap_or (way_latency switches r) 0 + apart else 0
 
--- the skew, which allows for the latency and for the way
-unfoldable pub skew_needed : List NamedRows → Rows → RowAt → ℕ
-skew_needed switches t r =
-    min greatest_delay (max r.row.latency_us (way_to_system switches t r))
+-- the skew, which allows for the latency and for that
+unfoldable pub skew_needed : (apart : ℕ) → List NamedRows → Rows → RowAt → ℕ
+skew_needed apart switches t r =
+    min greatest_delay (max r.row.latency_us (way_to_system apart switches t r))
 
 -- ---- each key by what it takes
 
@@ -59,7 +61,7 @@ pub record TimesTake (Stands : (taken value : ℕ) → Type 0) (o : SolveOptions
       Stands (chosen o.kept.latency o.raise_only file.latency_us (latency_needed t r.row))
       r.row.latency_us
   pub skew :
-      Stands (chosen o.kept.skew o.raise_only file.skew_us (skew_needed switches t r))
+      Stands (chosen o.kept.skew o.raise_only file.skew_us (skew_needed (apart_us o) switches t r))
       r.row.skew_us
 
 -- and all four keys of switches that are like those in the file but for these keys
@@ -131,33 +133,56 @@ pub record MayStandFor (o : SolveOptions) (file others : List NamedRows) : Type 
       link_at others k i ≡ Some l →
       MayHaveTimes o f l
 
--- none of these is admitted
+-- the skews of these switches allow for copies that are sent so far apart
+abbrev pub AllowApart : SolveOptions → (switches : List NamedRows) → Type 0
+AllowApart o switches =
+    (k i : ℕ) (t : Rows) (l : LinkRow) →
+    tables_at switches k ≡ Some t →
+    slice_get t.links i ≡ Some l →
+    way_to_system (apart_us o) switches t (row_at k l) ≤ l.skew_us
+
+-- admitted, and the skews allow for it
+pub record IsAdmittedApart (o : SolveOptions) (switches : List NamedRows) : Type 0 where
+  pub admitted : IsCascadeAdmitted switches
+  pub apart : AllowApart o switches
+
+-- where copies are sent at equal times, that is admission alone
+abbrev pub AdmittedAllow : Type 0
+AdmittedAllow =
+    (o : SolveOptions) (switches : List NamedRows) →
+    o.apart ≡ 0 →
+    AreSwitches switches →
+    IsCascadeAdmitted switches →
+    IsAdmittedApart o switches
+
+-- none of these is admitted with such skews
 abbrev pub NoneIsAdmitted : SolveOptions → (file : List NamedRows) → Type 0
 NoneIsAdmitted o file =
     (others : List NamedRows) →
     AreSwitches others →
     MayStandFor o file others →
-    IsCascadeAdmitted others →
+    IsAdmittedApart o others →
     ⊥
 
--- no admitted cascade that differs in keys which may be changed alone has a smaller value anywhere
+-- no cascade that is admitted with such skews and differs in keys which may be changed alone has a
+-- smaller value anywhere
 abbrev pub CascadeIsLeast : Type 0
 CascadeIsLeast =
     (o : SolveOptions) (file solved others : List NamedRows) →
     IsLeastSolution o file solved →
     AreSwitches others →
-    IsCascadeAdmitted others →
+    IsAdmittedApart o others →
     MayStandFor o file others →
     AreAtMost solved others
 
--- and where one of these is admitted, the least solution is
+-- and where one of these is, the least solution is admitted
 abbrev pub LeastIsAdmitted : Type 0
 LeastIsAdmitted =
     (o : SolveOptions) (file solved others : List NamedRows) →
     AreSwitches solved →
     IsLeastSolution o file solved →
     AreSwitches others →
-    IsCascadeAdmitted others →
+    IsAdmittedApart o others →
     MayStandFor o file others →
     IsCascadeAdmitted solved
 

@@ -14,7 +14,11 @@ use afdx_config::{Link, SwitchId, Switches, Times};
 fn begun_times(link: &Link, options: SolveOptions) -> Times
     ensures { result ≡ spec.begun_times options (link_row link.now) }
 {
-    let SolveOptions { kept, raise_only } = options;
+    let SolveOptions {
+        kept,
+        raise_only,
+        ..
+    } = options;
     Times {
         jitter_us: chosen(kept.jitter, raise_only, link.jitter_us, 0),
         latency_us: chosen(kept.latency, raise_only, link.latency_us, 1),

@@ -1,6 +1,6 @@
 //! What the keys of a row need where several switches stand on a side.
 
-ghost use Rattle.std.specs.Prelude.{◌≡◌, ◌<◌, length, slice_index, min, max, Some};
+ghost use Rattle.std.specs.Prelude.{◌≡◌, ◌<◌, ◌+◌, length, slice_index, min, max, Some};
 ghost use Rattle.std.specs.Prelude.{if◌then◌else◌};
 ghost use Rattle.std.specs.Option.{unwrap_or};
 ghost use Rattle.std.specs.List.{AllByRecursion};
@@ -12,10 +12,12 @@ ghost use Rattle.afdx_admit.specs.Cascade.{row_at, way_latency, goes_to_system};
 ghost use Rattle.afdx_admit.specs.Sums.{AreJitters, CanSend};
 ghost use Rattle.afdx_solve.specs.Delays.{of_class};
 ghost use Rattle.afdx_solve.specs.Solved as solved;
+ghost use Rattle.afdx_solve.specs.Solved.{apart_us};
 ghost use Rattle.afdx_solve.specs.SolvedCascade as spec;
 
 use crate::delays::{Delays, latency_over};
 use crate::jitters::least_jitter;
+use crate::options::SolveOptions;
 use afdx_admit::{goes_to_system, late_behind, latency_of, row_before};
 use afdx_config::{Link, SwitchId, Switches, Tables, Times};
 use afdx_frame::GREATEST_DELAY_US;
@@ -74,12 +76,13 @@ fn latency_needed(link: &Link, delays: &Delays) -> u64
 
 /// The skew that a row of a switch needs, in us.
 #[tactic(auto, unfolding(crate::specs::SolvedCascade::skew_needed))]
-fn skew_needed(tables: &Tables, link: &Link, way: Option<u64>) -> u64
+fn skew_needed(tables: &Tables, link: &Link, way: Option<u64>, options: SolveOptions) -> u64
     ensures { result ≡ min greatest_delay (max link.now.latency_us
-        (if goes_to_system tables.now (link_row link.now) then unwrap_or way 0 else 0)) }
+        (if goes_to_system tables.now (link_row link.now)
+        then unwrap_or way 0 + apart_us options else 0)) }
 {
     let whole = if goes_to_system(tables, link) {
-        way.unwrap_or(0)
+        way.unwrap_or(0).saturating_add(options.apart_us())
     } else {
         0
     };
@@ -93,6 +96,7 @@ pub(crate) fn needed_times(
     link: &Link,
     jitters: &[u64],
     delays: &Delays,
+    options: SolveOptions,
 ) -> Times
     requires row { IsRowAt switches.now (row_at switch.0 (link_row link.now)) }
     requires jitters { (t : Rows) → tables_at switches.now switch.0 ≡ Some t →
@@ -104,13 +108,14 @@ pub(crate) fn needed_times(
     ensures latency { result.latency_us ≡ min greatest_delay (solved.latency_over
         (slice_index (of_class link.now.priority delays.now)) (link_row link.now).to) }
     ensures skew { (t : Rows) → tables_at switches.now switch.0 ≡ Some t →
-        result.skew_us ≡ spec.skew_needed switches.now t (row_at switch.0 (link_row link.now)) }
+        result.skew_us ≡ spec.skew_needed (apart_us options) switches.now t
+        (row_at switch.0 (link_row link.now)) }
 {
     let tables = switches.tables(switch);
     let way = latency_of(switches, switch, link);
     Times {
         jitter_us: jitter_needed(switches, switch, link, jitters, way),
         latency_us: latency_needed(link, delays),
-        skew_us: skew_needed(tables, link, way),
+        skew_us: skew_needed(tables, link, way, options),
     }
 }

@@ -63,6 +63,13 @@ pub(crate) fn latency_over(delays: &[u64], to: &[SystemId]) -> u64
     }
 }
 
+/// The least skew of a link with such a latency, in us.
+fn least_skew(latency: u64, options: SolveOptions) -> u64
+    ensures { result ≡ spec.least_skew options latency }
+{
+    GREATEST_DELAY_US.min(latency.saturating_add(options.apart_us()))
+}
+
 /// The times of a link with the latency and the skew that it takes.
 fn times_of(link: &Link, delays: &[u64], options: SolveOptions) -> Times
     requires count { length delays.now ≡ last_port }
@@ -77,10 +84,11 @@ fn times_of(link: &Link, delays: &[u64], options: SolveOptions) -> Times
         link.latency_us,
         least,
     );
+    let skew = least_skew(latency, options);
     Times {
         jitter_us: link.jitter_us,
         latency_us: latency,
-        skew_us: chosen(options.kept.skew, options.raise_only, link.skew_us, latency),
+        skew_us: chosen(options.kept.skew, options.raise_only, link.skew_us, skew),
     }
 }
 

@@ -66,7 +66,7 @@ fn raise_row(
         AreTimesSettled options switches.new t switch.0 l }
 {
     let link = switches.tables(switch).link(index);
-    let needed = needed_times(switches, switch, link, jitters, delays);
+    let needed = needed_times(switches, switch, link, jitters, delays, options);
     let times = raised_times(link, needed, options);
     let raised = is_more(link, times);
     if raised {

@@ -60,8 +60,9 @@ fn set_buffer(tables: &mut Tables, options: SolveOptions)
 }
 
 /// The tables with the least jitter, buffer, latency and skew, each from those before it, which are
-/// admitted. A key that no value in its range is enough for has the greatest one. Where the tables
-/// aren't admitted, they are handed back with the first line of admission that is false.
+/// admitted. A skew is more than the latency by how far apart copies may be sent. A key that no
+/// value in its range is enough for has the greatest one. Where the tables aren't admitted, they
+/// are handed back with the first line of admission that is false.
 pub fn solve(tables: Tables, options: SolveOptions) -> Result<Admitted, (Tables, AdmitFault)>
     ensures solved { IfOk result (λ admitted. admitted ≡ spec.solved options tables) }
     ensures admitted { OnOk result (IsAdmitted (spec.solved options tables)) }

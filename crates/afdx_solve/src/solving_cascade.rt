@@ -36,7 +36,8 @@ fn set_least(switches: &mut Switches, options: SolveOptions)
 /// The switches with the least jitters, latencies, skews and buffers that are enough for each
 /// other, if they are admitted then. A key that no value in its range is enough for has the
 /// greatest one. Where the switches aren't admitted, they are handed back with the first line of
-/// admission that is false; then no others are that differ in keys which may be changed alone.
+/// admission that is false; then no others are that differ in keys which may be changed alone, and
+/// whose skews allow for copies that are sent so far apart.
 pub fn solve_cascade(
     switches: Switches,
     options: SolveOptions,

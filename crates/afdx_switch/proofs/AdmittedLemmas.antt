@@ -29,16 +29,16 @@ use Rattle.afdx_port.specs.Due.{IsAfter}
 use Rattle.afdx_port.specs.History.{due_at}
 use Rattle.afdx_port.specs.Schedule.{Entry, Turn, IsNext, AreTurns}
 use Rattle.afdx_port.proofs.TurnLemmas.{eqb-same}
-use Rattle.afdx_bounds.specs.Offered.{is_lost}
-use Rattle.afdx_bounds.specs.Outputs.{Row, sends, accepts, entry_of, offers_at, link_in, charge_in}
-use Rattle.afdx_bounds.specs.TableLaws.{IsOutputOf}
-use Rattle.afdx_bounds.proofs.BoundLemmas.{turn_at}
-use Rattle.afdx_bounds.proofs.CarryLemmas.{bytes-carry}
-use Rattle.afdx_bounds.proofs.ListLemmas.{all_get}
-use Rattle.afdx_bounds.proofs.OutputLemmas.{arrival-kept}
-use Rattle.afdx_bounds.proofs.TableLemmas.{output-served, rows-are}
-use Rattle.afdx_bounds.proofs.TableLawLemmas.{contains-row, has-slot, slot-has-come}
-use Rattle.afdx_bounds.proofs.VerdictLemmas.{one-name}
+use Rattle.afdx_law_bounds.specs.Offered.{is_lost}
+use Rattle.afdx_law_bounds.specs.Outputs.{Row, sends, accepts, entry_of, offers_at, link_in, charge_in}
+use Rattle.afdx_law_bounds.specs.TableLaws.{IsOutputOf}
+use Rattle.afdx_law_bounds.proofs.BoundLemmas.{turn_at}
+use Rattle.afdx_law_bounds.proofs.CarryLemmas.{bytes-carry}
+use Rattle.afdx_law_bounds.proofs.ListLemmas.{all_get}
+use Rattle.afdx_law_bounds.proofs.OutputLemmas.{arrival-kept}
+use Rattle.afdx_law_bounds.proofs.TableLemmas.{output-served, rows-are}
+use Rattle.afdx_law_bounds.proofs.TableLawLemmas.{contains-row, has-slot, slot-has-come}
+use Rattle.afdx_law_bounds.proofs.VerdictLemmas.{one-name}
 use Rattle.afdx_switch.specs.Admitted.{IsAdmittedRun, Passing, passing, passing_in}
 use Rattle.afdx_switch.specs.Admitted.{accepted_on, accepted_frames}
 use Rattle.afdx_switch.specs.Admitted.{frames_among, AcceptedIsKept, LosesNothing, AcceptedEnter}

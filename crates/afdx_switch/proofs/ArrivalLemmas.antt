@@ -1,7 +1,7 @@
 -- What one more arrival is, and what it adds to the entries of the output ports.
 use Rattle.std.proofs.Common.{◌≡◌, ℕ, ◌≤◌, ◌&&◌, Bool, true, false, List, [], ◌∷◌, length}
 use Rattle.std.proofs.Common.{refl, sym, ap, ◌∙◌, arith, inl, inr}
-use Rattle.std.specs.Prelude.{Result, Ok, Err, OnErr, Option, Some, None, IfSome, is_none}
+use Rattle.std.specs.Prelude.{Option, Some, None, IfSome, is_none}
 use Rattle.std.specs.Prelude.{find, min, max, option_map, if◌then◌else◌}
 use Rattle.std.proofs.lemmas.Bool.{and_parts}
 use Rattle.afdx_frame.specs.declared.link.Priority.{Priority}
@@ -14,9 +14,9 @@ use Rattle.afdx_police.proofs.FirstOfLemmas.{first_of-some}
 use Rattle.afdx_police.specs.Verdicts.{reason_after, verdict_in}
 use Rattle.afdx_police.specs.declared.shape.Reason.{Reason}
 use Rattle.afdx_police.specs.declared.shape.Reason.TheVariants.{UnknownLink}
-use Rattle.afdx_bounds.specs.Offered.{is_lost, with_offer, entries_of}
-use Rattle.afdx_bounds.specs.Outputs.{Row, Output, accepts, sends, entry_of, with_sent, offers_at}
-use Rattle.afdx_bounds.proofs.VerdictLemmas.{looks}
+use Rattle.afdx_law_bounds.specs.Offered.{is_lost, with_offer, entries_of}
+use Rattle.afdx_law_bounds.specs.Outputs.{Row, Output, accepts, sends, entry_of, with_sent, offers_at}
+use Rattle.afdx_law_bounds.proofs.VerdictLemmas.{looks}
 use Rattle.afdx_switch.specs.HeldFrames.{held_frame}
 use Rattle.afdx_switch.specs.Tables.{rows_of, output_at, byte_ns_at, row_named, wait_of, carried, entries_at}
 use Rattle.afdx_switch.specs.Verdicts.{fault_on, shape_fault, reason_on, reason_of, is_share_lost, is_lost_at}
@@ -27,11 +27,6 @@ use Rattle.afdx_switch.proofs.ListLemmas.{find-none, find-one, bool_cases}
 pub same-side : (s : Side) → is_side s s ≡ true
 same-side A = refl
 same-side B = refl
-
--- what holds anyway holds after an error
-pub on-err : {X E P : Type 0} (r : Result X E) → P → OnErr r P
-on-err (Ok x) p = tt
-on-err (Err e) p = p
 
 -- a link's own arrivals
 pub own-other : (vl : ℕ) (side : Side) (x : Arrival) (past : List Arrival)

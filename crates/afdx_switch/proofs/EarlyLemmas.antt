@@ -12,7 +12,7 @@ use Rattle.afdx_police.specs.declared.shape.Reason.{Reason}
 use Rattle.afdx_police.specs.declared.shape.Reason.TheVariants.{OverRate}
 use Rattle.afdx_police.proofs.EarlyLemmas.{fault-not_rate, reason-refused}
 use Rattle.afdx_police.proofs.VerdictLemmas.{reason-fault, sound-own}
-use Rattle.afdx_bounds.specs.Outputs.{Row}
+use Rattle.afdx_law_bounds.specs.Outputs.{Row}
 use Rattle.afdx_switch.specs.Early.{IsEarlyBy}
 use Rattle.afdx_switch.specs.Found.{Found, IsFaulted}
 use Rattle.afdx_switch.specs.Switching.{SwitchHistory}

@@ -12,7 +12,7 @@ use Rattle.afdx_police.specs.Shape.{fault_of}
 use Rattle.afdx_police.specs.Verdicts.{verdict_in}
 use Rattle.afdx_police.specs.declared.shape.Reason.{Reason}
 use Rattle.afdx_police.proofs.VerdictLemmas.{reason-fault, fault_changes_nothing}
-use Rattle.afdx_bounds.specs.Outputs.{Row, Output, sends}
+use Rattle.afdx_law_bounds.specs.Outputs.{Row, Output, sends}
 use Rattle.afdx_switch.specs.Found.{Found, IsFaulted}
 use Rattle.afdx_switch.specs.Lines.{IsLine, IsNamed, IsNamedAt, IsCharged}
 use Rattle.afdx_switch.specs.Sound.{IsLineSound}

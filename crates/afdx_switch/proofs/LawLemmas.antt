@@ -18,9 +18,9 @@ use Rattle.afdx_port.specs.History as queue
 use Rattle.afdx_port.specs.Schedule.{Entry, AreTurns}
 use Rattle.afdx_port.proofs.ClassLemmas.{go_in_order}
 use Rattle.afdx_port.proofs.HistoryLemmas.{taken_turns}
-use Rattle.afdx_bounds.specs.Offered.{is_lost, entries_of}
-use Rattle.afdx_bounds.specs.Outputs.{Row, accepts, sends, entry_of, with_sent, offers_at}
-use Rattle.afdx_bounds.proofs.VerdictLemmas.{one-name}
+use Rattle.afdx_law_bounds.specs.Offered.{is_lost, entries_of}
+use Rattle.afdx_law_bounds.specs.Outputs.{Row, accepts, sends, entry_of, with_sent, offers_at}
+use Rattle.afdx_law_bounds.proofs.VerdictLemmas.{one-name}
 use Rattle.afdx_switch.specs.HeldFrames.{HeldFrame, facts}
 use Rattle.afdx_switch.specs.Laws.{VerdictsAreOwn, EntriesStep, is_of, TakenAreTurns}
 use Rattle.afdx_switch.specs.Laws.{OtherSideIsApart, LostPortsAreListed}

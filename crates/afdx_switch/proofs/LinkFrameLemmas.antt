@@ -13,8 +13,8 @@ use Rattle.afdx_police.specs.declared.shape.Reason.{Reason}
 use Rattle.afdx_port.specs.Classes.{entries_in, without_turn}
 use Rattle.afdx_port.specs.Schedule.{Entry}
 use Rattle.afdx_port.proofs.ClassLemmas.{all_go_in_order}
-use Rattle.afdx_bounds.specs.Outputs.{Row, entry_of, offers_at}
-use Rattle.afdx_bounds.proofs.VerdictLemmas.{one-name}
+use Rattle.afdx_law_bounds.specs.Outputs.{Row, entry_of, offers_at}
+use Rattle.afdx_law_bounds.proofs.VerdictLemmas.{one-name}
 use Rattle.afdx_switch.specs.HeldFrames.{HeldFrame}
 use Rattle.afdx_switch.specs.Laws.{EntriesStep, is_of}
 use Rattle.afdx_switch.specs.LinkFrames.{goes_on, enters, entered, frames_of, AreFirstEntered, OthersGetNone}

@@ -7,7 +7,7 @@ use Rattle.afdx_frame.specs.Layout.{link_named_by}
 use Rattle.afdx_frame.specs.declared.link.VlId.{VlId}
 use Rattle.afdx_police.specs.Arrival.{names}
 use Rattle.afdx_port.proofs.TurnLemmas.{eqb-same}
-use Rattle.afdx_bounds.specs.Outputs.{Row}
+use Rattle.afdx_law_bounds.specs.Outputs.{Row}
 use Rattle.afdx_switch.specs.Lines.{IsPlace, IsPlaceOf, IsNamed, IsNamedAt}
 use Rattle.afdx_switch.proofs.ListLemmas.{bool_cases}
 

@@ -15,7 +15,7 @@ use Rattle.afdx_config.specs.Reading.{link_of}
 use Rattle.afdx_config.specs.Rows.{SystemRow, LinkRow, Rows}
 use Rattle.afdx_config.proofs.LookUpLemmas.{each_row-found}
 use Rattle.afdx_police.specs.Rule.{rule_with}
-use Rattle.afdx_bounds.specs.Outputs.{Row, offers_at}
+use Rattle.afdx_law_bounds.specs.Outputs.{Row, offers_at}
 use Rattle.afdx_port.specs.History as queue
 use Rattle.afdx_port.specs.declared.port_state.PortState.{PortState}
 use Rattle.afdx_switch.specs.HeldFrames.{HeldFrame, facts}

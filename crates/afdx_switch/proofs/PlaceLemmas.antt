@@ -10,7 +10,7 @@ use Rattle.std.proofs.lemmas.Option.{slice_get-map}
 use Rattle.afdx_port.proofs.TurnLemmas.{eqb-same}
 use Rattle.afdx_config.specs.Reading.{system_at_port}
 use Rattle.afdx_config.specs.Rows.{LinkRow, Rows, is_to}
-use Rattle.afdx_bounds.specs.Outputs.{Row}
+use Rattle.afdx_law_bounds.specs.Outputs.{Row}
 use Rattle.afdx_switch.specs.Lines.{is_among, ArePlaces}
 use Rattle.afdx_switch.specs.Tables.{goes_to, row_of, rows_of, buffer_at}
 use Rattle.afdx_switch.proofs.ListLemmas.{bool_cases}

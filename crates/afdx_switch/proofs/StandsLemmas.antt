@@ -14,7 +14,7 @@ use Rattle.afdx_police.specs.declared.account.LinkAccount.{LinkAccount}
 use Rattle.afdx_port.specs.Held as held
 use Rattle.afdx_port.specs.History as queue
 use Rattle.afdx_port.specs.declared.port_state.PortState.{PortState}
-use Rattle.afdx_bounds.specs.Outputs.{Row, sends}
+use Rattle.afdx_law_bounds.specs.Outputs.{Row, sends}
 use Rattle.afdx_switch.specs.HeldFrames.{HeldFrame, held_frame, facts}
 use Rattle.afdx_switch.specs.Ports.{holds}
 use Rattle.afdx_switch.specs.Tables.{rows_of, output_at, byte_ns_at, buffer_at}
@@ -35,15 +35,6 @@ use Rattle.afdx_switch.proofs.ListLemmas.{all-at, bool_cases}
 pub all-from : {X : Type 0} (P : X → Type 0) (xs : List X)
     → ((i : ℕ) (x : X) → slice_get xs i ≡ Some x → P x) → All P xs
 all-from P xs each k d below = each k _ (slice_get-get_or xs k d below)
-
--- the line that was charged is otherwise as it was
-pub line-charged : (old new : List Line) (place : ℕ) (line : Line) (account : LinkAccount)
-    → slice_get old place ≡ Some line → new ≡ set old place (record line { account = account })
-    → (found : Line) → slice_get new place ≡ Some found → found ≡ record line { account = account }
-line-charged old new place line account at is found at_new =
-    let here = slice_get-set_here old place (record line { account = account }) (slice_get_within old place line at) in
-    let there = ap (λ ls. slice_get ls place) (sym is) ∙ at_new in
-    cc
 
 -- each line is the one that its own arrivals leave, with one more
 abbrev pub LinesAfter : Rows → Arrival → SwitchHistory → List Line → Type 0

@@ -11,7 +11,7 @@ use Rattle.afdx_port.specs.Classes.{entries_in}
 use Rattle.afdx_port.specs.Due.{IsAfter}
 use Rattle.afdx_port.specs.History.{due_at}
 use Rattle.afdx_port.specs.Schedule.{Entry, Turn, has_turn, IsNext, AreTurns}
-use Rattle.afdx_bounds.specs.Outputs.{AreTimed}
+use Rattle.afdx_law_bounds.specs.Outputs.{AreTimed}
 use Rattle.afdx_switch.specs.HeldFrames.{HeldFrame}
 use Rattle.afdx_switch.specs.Laws.{is_of}
 use Rattle.afdx_switch.specs.Ports.{holds}

@@ -4,7 +4,7 @@ use Rattle.afdx_config.specs.Rows.{Rows}
 use Rattle.afdx_police.specs.Arrival.{Arrival, names}
 use Rattle.afdx_police.specs.Shape.{fault_of}
 use Rattle.afdx_police.specs.declared.shape.Reason.{Reason}
-use Rattle.afdx_bounds.specs.Outputs.{Row}
+use Rattle.afdx_law_bounds.specs.Outputs.{Row}
 use Rattle.afdx_switch.specs.Lines.{IsLine, IsNamedAt}
 use Rattle.afdx_switch.specs.Switching.{SwitchHistory}
 use Rattle.afdx_switch.specs.Tables.{rows_of}

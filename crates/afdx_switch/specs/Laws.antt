@@ -8,7 +8,7 @@ use Rattle.afdx_police.specs.Arrival.{Arrival, is_side, names, own}
 use Rattle.afdx_police.specs.declared.shape.Reason.{Reason}
 use Rattle.afdx_port.specs.Classes.{GoInOrder}
 use Rattle.afdx_port.specs.Schedule.{Entry, AreTurns}
-use Rattle.afdx_bounds.specs.Outputs.{Row, entry_of}
+use Rattle.afdx_law_bounds.specs.Outputs.{Row, entry_of}
 use Rattle.afdx_switch.specs.HeldFrames.{HeldFrame}
 use Rattle.afdx_switch.specs.Tables.{row_named, byte_ns_at, carried, entries_at}
 use Rattle.afdx_switch.specs.Ports.{holds}

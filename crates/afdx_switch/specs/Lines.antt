@@ -9,7 +9,7 @@ use Rattle.afdx_police.specs.Rule.{Rule}
 use Rattle.afdx_police.specs.Verdicts.{reason_after}
 use Rattle.afdx_police.specs.declared.account.LinkAccount.{LinkAccount}
 use Rattle.afdx_police.specs.declared.shape.Reason.{Reason}
-use Rattle.afdx_bounds.specs.Outputs.{Row}
+use Rattle.afdx_law_bounds.specs.Outputs.{Row}
 use Rattle.afdx_switch.specs.declared.line.Line.{Line}
 
 -- the place is one of these

@@ -9,7 +9,7 @@ use Rattle.afdx_config.specs.Rows.{Rows}
 use Rattle.afdx_police.specs.Arrival.{Arrival, is_side, names}
 use Rattle.afdx_port.specs.Classes.{entries_in}
 use Rattle.afdx_port.specs.Schedule.{Turn}
-use Rattle.afdx_bounds.specs.Outputs.{Row}
+use Rattle.afdx_law_bounds.specs.Outputs.{Row}
 use Rattle.afdx_switch.specs.HeldFrames.{HeldFrame}
 use Rattle.afdx_switch.specs.Laws.{is_of}
 use Rattle.afdx_switch.specs.Switching.{PortTurn, SwitchHistory, StandsFor, IsDone, taken_at}

@@ -5,7 +5,7 @@ use Rattle.afdx_config.specs.Rows.{Rows}
 use Rattle.afdx_port.specs.Held as held
 use Rattle.afdx_port.specs.History as queue
 use Rattle.afdx_port.specs.declared.port_state.PortState.{PortState}
-use Rattle.afdx_bounds.specs.Outputs.{Row}
+use Rattle.afdx_law_bounds.specs.Outputs.{Row}
 use Rattle.afdx_switch.specs.HeldFrames.{HeldFrame, facts}
 use Rattle.afdx_switch.specs.Tables.{byte_ns_at, buffer_at}
 use Rattle.afdx_switch.specs.Lines.{IsLine}

@@ -5,7 +5,7 @@ use Rattle.afdx_port.specs.Held as held
 use Rattle.afdx_port.specs.History as queue
 use Rattle.afdx_port.specs.Schedule.{Entry}
 use Rattle.afdx_port.specs.declared.port_state.PortState.{PortState}
-use Rattle.afdx_bounds.specs.Offered as offered
+use Rattle.afdx_law_bounds.specs.Offered as offered
 use Rattle.afdx_switch.specs.HeldFrames.{HeldFrame, facts}
 use Rattle.afdx_switch.specs.Lines.{is_among}
 use Rattle.afdx_switch.specs.Ports.{holds}

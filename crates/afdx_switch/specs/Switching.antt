@@ -11,7 +11,7 @@ use Rattle.afdx_port.specs.History as queue
 use Rattle.afdx_port.specs.Schedule.{Turn, IsNext, IsSchedule}
 use Rattle.afdx_port.specs.declared.left.Due.{Due}
 use Rattle.afdx_port.specs.declared.port_state.PortState.{PortState}
-use Rattle.afdx_bounds.specs.Outputs.{Row}
+use Rattle.afdx_law_bounds.specs.Outputs.{Row}
 use Rattle.afdx_switch.specs.HeldFrames.{HeldFrame, facts}
 use Rattle.afdx_switch.specs.Tables.{rows_of, byte_ns_at, buffer_at, entries_at}
 use Rattle.afdx_switch.specs.Departures.{as_given, giving_port}

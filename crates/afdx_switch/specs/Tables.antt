@@ -7,11 +7,11 @@ use Rattle.afdx_config.specs.Reading.{system_at_port}
 use Rattle.afdx_config.specs.Rows.{Rows}
 use Rattle.afdx_police.specs.Arrival.{Arrival, names}
 use Rattle.afdx_port.specs.Schedule.{Entry}
-use Rattle.afdx_bounds.specs.Outputs.{Row}
-unfoldable pub use Rattle.afdx_bounds.specs.Tables.{port_of, rule_of, longest_wait_of, goes_to}
-unfoldable pub use Rattle.afdx_bounds.specs.Tables.{rows_of, byte_ns_at}
-pub use Rattle.afdx_bounds.specs.Tables.{row_of, output_at}
-use Rattle.afdx_bounds.specs.TableLaws.{entries_to}
+use Rattle.afdx_law_bounds.specs.Outputs.{Row}
+unfoldable pub use Rattle.afdx_law_bounds.specs.Tables.{port_of, rule_of, longest_wait_of, goes_to}
+unfoldable pub use Rattle.afdx_law_bounds.specs.Tables.{rows_of, byte_ns_at}
+pub use Rattle.afdx_law_bounds.specs.Tables.{row_of, output_at}
+use Rattle.afdx_law_bounds.specs.TableLaws.{entries_to}
 use Rattle.afdx_switch.specs.HeldFrames.{HeldFrame}
 
 -- the buffer of a port in bytes: nothing goes to a port that no system has, so it has the least

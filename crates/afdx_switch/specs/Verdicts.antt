@@ -7,8 +7,8 @@ use Rattle.afdx_police.specs.Arrival.{Arrival}
 use Rattle.afdx_police.specs.Shape.{fault_of}
 use Rattle.afdx_police.specs.Verdicts.{verdict_in}
 use Rattle.afdx_police.specs.declared.shape.Reason.{Reason}
-use Rattle.afdx_bounds.specs.Offered.{is_lost}
-use Rattle.afdx_bounds.specs.Outputs.{Row, sends, entry_of}
+use Rattle.afdx_law_bounds.specs.Offered.{is_lost}
+use Rattle.afdx_law_bounds.specs.Outputs.{Row, sends, entry_of}
 use Rattle.afdx_switch.specs.Ports.{holds}
 use Rattle.afdx_switch.specs.Tables.{rows_of, output_at, row_named, carried, byte_ns_at, entries_at}
 use Rattle.afdx_switch.specs.declared.verdict.Verdict.{Verdict}

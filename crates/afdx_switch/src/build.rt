@@ -8,7 +8,7 @@ ghost use Rattle.afdx_frame.specs.Layout.{identifier_count};
 ghost use Rattle.afdx_frame.specs.Lengths.{least_frame, greatest_buffer};
 ghost use Rattle.afdx_frame.specs.Ports.{last_port};
 ghost use Rattle.afdx_frame.specs.declared.link.Side.{Side};
-ghost use Rattle.afdx_bounds.specs.Outputs.{Row};
+ghost use Rattle.afdx_law_bounds.specs.Outputs.{Row};
 ghost use Rattle.afdx_port.specs.Held.{IsByteTime};
 ghost use Rattle.afdx_port.specs.Times.{greatest_wait};
 ghost use Rattle.afdx_port.specs.declared.port_state.PortState.{PortState};

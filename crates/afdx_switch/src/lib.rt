@@ -1,6 +1,6 @@
 //! One switch: filter and police what arrives, and send it on through the output ports.
 //!
-//! Its tests are in `afdx_run_tests`.
+//! Its tests are in `afdx_test_runs`.
 #![tactic(auto)]
 
 mod build;

@@ -4,7 +4,7 @@ use Rattle.std.proofs.Common.{append-nil, append_assoc, ap, ◌++◌, take, drop
 use Rattle.std.specs.Prelude.{Option, OnErr, Result, Ok, Err}
 use Rattle.std.specs.Io.KnownBytes.{Appends, Keeps}
 use Rattle.std.proofs.KnownBytes.{Appends-trans}
-use Rattle.afdx_lists.specs.Calls.{AppendsFront}
+use Rattle.afdx_input_lines.specs.Calls.{AppendsFront}
 
 pub kept_appends : (a b c : Option (List ℕ)) (x : List ℕ) → Appends a b x → Keeps b c → Appends a c x
 kept_appends None b c x p q = tt

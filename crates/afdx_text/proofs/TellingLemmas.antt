@@ -2,10 +2,10 @@
 use Rattle.std.proofs.Common.{◌≡◌, ℕ, Bool, true, false, List, [], ◌++◌, Option, refl, sym, ap, ◌∙◌}
 use Rattle.std.proofs.Common.{subst}
 use Rattle.std.proofs.KnownBytes.{Appends-nil, Appends-trans}
-use Rattle.afdx_lists.specs.Calls.{AppendsFront}
+use Rattle.afdx_input_lines.specs.Calls.{AppendsFront}
 use Rattle.afdx_text.specs.Telling.{Tells}
 use Rattle.afdx_text.proofs.OutputLemmas.{front-longer, front-more}
-use Rattle.afdx_lists.specs.declared.watched.Watched.{Watched}
+use Rattle.afdx_input_lines.specs.declared.watched.Watched.{Watched}
 
 -- one piece more
 pub Tells-more : {W : Type 0} (contents : W → Option (List ℕ)) (a b c : Watched W) (x y : List ℕ)

@@ -1,8 +1,7 @@
 -- Texts that grow at their end, in a room that is longer.
 use Rattle.std.proofs.Common.{◌≡◌, ℕ, ◌+◌, ◌-◌, ◌≤◌, Bool, true, false, if◌then◌else◌, List, ◌++◌}
 use Rattle.std.proofs.Common.{length, take, drop, decimal, ap, ◌∙◌, arith, append_assoc}
-use Rattle.std.proofs.Common.{length-append}
-use Rattle.std.proofs.lemmas.List.{take-append-drop, take-append-le, take-take, take_at, length-take}
+use Rattle.std.proofs.lemmas.List.{take-append-drop, take-append-le, take-take, take_at}
 use Rattle.std.proofs.Common.{sym}
 use Rattle.std.proofs.lemmas.List.{length-take-le}
 use Rattle.std.proofs.lemmas.Simd.{put_chunk_is}
@@ -31,19 +30,6 @@ put_at_place xs ys at size k few long within =
     ∙ put_front xs piece rest at size (omega (arith, within)) (omega (arith, all, few))
     ∙ ap (λ (zs : List ℕ). take at xs ++ zs) (take-take size k ys few)
 
--- a room that took a piece behind a text: the first k bytes of the piece are its new end
-pub put_behind : (old xs room piece rest after new : List ℕ) (at k n : ℕ) → at ≤ length xs
-    → k ≤ length piece → at + k ≤ n → room ≡ (take at xs ++ piece) ++ rest → take at xs ≡ old
-    → take k piece ≡ new →
-    take (at + k) (take n (room ++ after)) ≡ old ++ new
-put_behind old xs room piece rest after new at k n within few long e text front =
-    take-take (at + k) n (room ++ after) long
-    ∙ ap (λ (ys : List ℕ). take (at + k) (ys ++ after)) e
-    ∙ ap (take (at + k)) (append_assoc (take at xs ++ piece) rest after)
-    ∙ put_front xs piece (rest ++ after) at k within few
-    ∙ ap (λ (ys : List ℕ). ys ++ take k piece) text
-    ∙ ap (λ (ys : List ℕ). old ++ ys) front
-
 -- a room in which a text ends later
 pub put_whole : (old xs room after new : List ℕ) (end at n : ℕ) → end ≤ n → end ≤ length room
     → take end room ≡ take at xs ++ new → take at xs ≡ old →
@@ -55,21 +41,6 @@ put_whole old xs room after new end at n long within e text =
 -- all of a piece
 pub take_whole : (xs : List ℕ) → take (length xs) xs ≡ xs
 take_whole xs = grind (arith, common_steps)
-
--- a number's digits, which begin 20 bytes
-pub take_digits : (ys rest : List ℕ) (n start m : ℕ) → m ≡ 20 → start + length (decimal n) ≡ 20
-    → drop start ys ≡ decimal n ++ rest → take (20 - start) (take m (drop start ys)) ≡ decimal n
-take_digits ys rest n start m all e written =
-    let size : length (decimal n) ≡ 20 - start = omega (arith, e) in
-    take-take (20 - start) m (drop start ys) (omega (arith, all)) ∙ ap (take (20 - start)) written
-    ∙ take_at (decimal n) rest (20 - start) size
-
-pub long_digits : (ys rest : List ℕ) (n start m : ℕ) → m ≡ 20 → start + length (decimal n) ≡ 20
-    → drop start ys ≡ decimal n ++ rest → 20 - start ≤ length (take m (drop start ys))
-long_digits ys rest n start m all e written =
-    let size : length (drop start ys) ≡ length (decimal n) + length rest = ap length written
-    ∙ length-append (decimal n) rest in
-    omega (arith, length-take m (drop start ys), size, e, all)
 
 -- a longer room begins alike
 pub grown : (is_ok : Bool) (xs more ys : List ℕ) (end n : ℕ) → end ≤ length xs → end ≤ n

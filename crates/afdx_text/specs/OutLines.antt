@@ -3,15 +3,15 @@ use Rattle.std.specs.Prelude.{ℕ, ◌+◌, ◌*◌, length, Bool, true, false, 
 use Rattle.std.specs.Prelude.{Option, Some, None, codes}
 use Rattle.std.specs.Fmt.{decimal}
 use Rattle.hex.specs.Hex.{encode_lower}
-use Rattle.afdx_lists.specs.declared.frame_line.FrameKind.{FrameKind}
-use Rattle.afdx_lists.specs.declared.frame_line.FrameKind.TheVariants.{Good, Bad, Raw}
+use Rattle.afdx_input_lines.specs.declared.frame_line.FrameKind.{FrameKind}
+use Rattle.afdx_input_lines.specs.declared.frame_line.FrameKind.TheVariants.{Good, Bad, Raw}
 use Rattle.afdx_police.specs.declared.shape.Reason.{Reason}
 use Rattle.afdx_police.specs.Words.{reason_word}
 use Rattle.afdx_receive.specs.Words.{drop_word}
 use Rattle.afdx_text.specs.declared.line.OutLine.{OutLine}
 use Rattle.afdx_text.specs.declared.line.OutLine.TheVariants.{Verdict, Lost, Left, Message, Unread}
 use Rattle.afdx_text.specs.declared.line.OutLine.TheVariants.{Listed, Remark, Refused, Bounds, Margin, Admitted}
-use Rattle.afdx_text.specs.declared.line.OutLine.TheVariants.{Denied, Switch, EndToEnd, Conform}
+use Rattle.afdx_text.specs.declared.line.OutLine.TheVariants.{Denied, Switch, EndToEnd, Apart, Conform}
 use Rattle.afdx_text.specs.ConformLines.{conform_text}
 pub use Rattle.afdx_text.specs.Places.{side_text, place_text, site_text}
 
@@ -110,6 +110,11 @@ abbrev pub end_to_end_line : ℕ → List ℕ → Option ℕ → List ℕ
 end_to_end_line vl system ns =
     codes "E " ++ decimal vl ++ codes " " ++ system ++ codes " " ++ bound_text ns ++ codes "\n"
 
+-- a link, and how far apart the copies of a frame may be sent, in ns, or a dash where no system
+-- gets it
+abbrev pub apart_line : ℕ → Option ℕ → List ℕ
+apart_line vl ns = codes "apart " ++ decimal vl ++ codes " " ++ bound_text ns ++ codes "\n"
+
 abbrev pub line_text : OutLine → List ℕ
 line_text (Verdict n site reason) = verdict_line n (site_text site) reason
 line_text (Lost n site port) = loss_line n (site_text site) port
@@ -127,6 +132,7 @@ line_text Admitted = admitted_line
 line_text (Denied line) = denied_line line.now
 line_text (Switch name) = switch_line name.now
 line_text (EndToEnd vl system ns) = end_to_end_line vl.0 system.now ns
+line_text (Apart vl ns) = apart_line vl.0 ns
 line_text (Conform line) = conform_text line
 
 -- at least as many bytes as a line has
@@ -146,4 +152,5 @@ longest Admitted = 128
 longest (Denied line) = 128 + length line.now
 longest (Switch name) = 128 + length name.now
 longest (EndToEnd vl system ns) = 128 + length system.now
+longest (Apart vl ns) = 128
 longest (Conform line) = 256

@@ -1,7 +1,7 @@
 -- What an output has been given that holds its last lines before its device.
 use Rattle.std.specs.Prelude.{ℕ, ◌||◌, Bool, List, Option, vec_len}
 use Rattle.std.specs.Io.KnownBytes.{append_known}
-use Rattle.afdx_lists.specs.Watching.{device_of, flush_has_failed, has_failed}
+use Rattle.afdx_input_lines.specs.Watching.{device_of, flush_has_failed, has_failed}
 use Rattle.afdx_text.specs.declared.output.Output.{Output}
 use Rattle.afdx_text.specs.Texts.{text_bytes}
 

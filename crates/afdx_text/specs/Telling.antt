@@ -1,11 +1,11 @@
 -- What a device is told that may have failed before.
 use Rattle.std.specs.Prelude.{ℕ, ◌≡◌, ◌++◌, false, true, List, Option, codes}
 use Rattle.std.specs.Io.KnownBytes.{Appends}
-use Rattle.afdx_lists.specs.Calls.{AppendsFront}
-use Rattle.afdx_lists.specs.FaultTexts.{fault_text}
-use Rattle.afdx_lists.specs.declared.fault.RunFault.{RunFault}
-use Rattle.afdx_lists.specs.declared.watched.Watched.{Watched}
-use Rattle.afdx_lists.specs.Watching.{device_of, has_failed}
+use Rattle.afdx_input_lines.specs.Calls.{AppendsFront}
+use Rattle.afdx_input_lines.specs.FaultTexts.{fault_text}
+use Rattle.afdx_input_lines.specs.declared.fault.RunFault.{RunFault}
+use Rattle.afdx_input_lines.specs.declared.watched.Watched.{Watched}
+use Rattle.afdx_input_lines.specs.Watching.{device_of, has_failed}
 
 -- this text was handed to it: whole unless it has failed, and else a beginning of it. If it failed
 -- before, it was not asked

@@ -3,7 +3,7 @@
 
 ghost use Rattle.std.specs.Prelude.{◌≡◌, ◌≤◌, ◌+◌, ◌++◌, length, take};
 ghost use Rattle.afdx_text.specs.OutLines.{bound_text, bounds_line, margin_line, denied_line};
-ghost use Rattle.afdx_text.specs.OutLines.{switch_line, end_to_end_line};
+ghost use Rattle.afdx_text.specs.OutLines.{switch_line, end_to_end_line, apart_line};
 
 use crate::piece::{put, put_number, put_piece, put_small};
 
@@ -111,6 +111,20 @@ pub(crate) fn put_end_to_end(
     let at = put_number(room, at, u64::from(vl));
     let at = put(room, at, b" ");
     let at = put_piece(room, at, system.as_bytes());
+    let at = put(room, at, b" ");
+    let at = put_bound(room, at, ns);
+    put(room, at, b"\n")
+}
+
+/// `apart vl ns`.
+#[inline(never)]
+pub(crate) fn put_apart(room: &mut [u8], at: usize, vl: u16, ns: Option<u64>) -> usize
+    requires { at + 128 ≤ length room.old }
+    ensures within { result ≤ at + 128 }
+    ensures text { take result room.new ≡ take at room.old ++ apart_line vl ns }
+{
+    let at = put(room, at, b"apart ");
+    let at = put_number(room, at, u64::from(vl));
     let at = put(room, at, b" ");
     let at = put_bound(room, at, ns);
     put(room, at, b"\n")

@@ -2,9 +2,10 @@
 
 ghost use Rattle.std.specs.Prelude.{◌≡◌, ◌≤◌, ◌+◌, ◌++◌, length, codes};
 ghost use Rattle.arrayvec.specs.ArrayString.{array_string_len};
-ghost use Rattle.afdx_lists.specs.FaultTexts.{fault_text, list_text, numbered, recording_text};
+ghost use Rattle.afdx_input_lines.specs.FaultTexts.{fault_text, list_text, numbered};
+ghost use Rattle.afdx_input_lines.specs.FaultTexts.{one_of_two_text, recording_text};
 
-use afdx_lists::{ListFault, RecordingFault, RunFault};
+use afdx_input_lines::{ListFault, OneOfTwo, RecordingFault, RunFault};
 use arrayvec::ArrayString;
 use itoa::Buffer;
 
@@ -65,26 +66,25 @@ fn put_recording(line: &mut ArrayString<LONGEST_LINE>, fault: &RecordingFault)
     }
 }
 
-/// Puts what is wrong with one of two recordings, and which it is.
-fn put_recording_of(line: &mut ArrayString<LONGEST_LINE>, fault: &RecordingFault, which: &str)
-    requires empty { array_string_len line.old ≡ 0 }
-    requires short { length which.now ≤ 5 }
-    ensures text { line.new.bytes ≡ line.old.bytes ++ (recording_text fault.now ++ which.now) }
+/// Puts what is wrong with one of two inputs, and which it is.
+fn put_one_of_two(line: &mut ArrayString<LONGEST_LINE>, fault: &OneOfTwo)
+    requires { array_string_len line.old ≡ 0 }
+    ensures text { line.new.bytes ≡ line.old.bytes ++ one_of_two_text fault.now }
     ensures short { array_string_len line.new ≤ 48 }
 {
-    put_recording(line, fault);
-    line.push_str(which);
-}
-
-/// Puts the words that say which of two lists it is, and what is wrong with that.
-fn put_list_of(line: &mut ArrayString<LONGEST_LINE>, which: &str, fault: &ListFault)
-    requires empty { array_string_len line.old ≡ 0 }
-    requires short { length which.now ≤ 10 }
-    ensures text { line.new.bytes ≡ line.old.bytes ++ (which.now ++ list_text fault.now) }
-    ensures short { array_string_len line.new ≤ 48 }
-{
-    line.push_str(which);
-    put_list(line, fault);
+    match fault {
+        OneOfTwo::Recording(which, fault) => {
+            put_recording(line, fault);
+            line.push_str(" ");
+            line.push_str(which.word());
+        }
+        OneOfTwo::List(which, fault) => {
+            line.push_str("list ");
+            line.push_str(which.word());
+            line.push_str(" ");
+            put_list(line, fault);
+        }
+    }
 }
 
 /// Puts the text of a fault.
@@ -105,11 +105,6 @@ pub(crate) fn put_fault(line: &mut ArrayString<LONGEST_LINE>, fault: &RunFault)
         RunFault::Write => line.push_str("device Write"),
         RunFault::Memory => line.push_str("memory"),
         RunFault::Recording(fault) => put_recording(line, fault),
-        RunFault::RecordingOfA(fault) => put_recording_of(line, fault, " A"),
-        RunFault::RecordingOfB(fault) => put_recording_of(line, fault, " B"),
-        RunFault::RecordingOfCame(fault) => put_recording_of(line, fault, " came"),
-        RunFault::RecordingOfLeft(fault) => put_recording_of(line, fault, " left"),
-        RunFault::ListOfCame(fault) => put_list_of(line, "list came ", fault),
-        RunFault::ListOfLeft(fault) => put_list_of(line, "list left ", fault),
+        RunFault::Of(fault) => put_one_of_two(line, fault),
     }
 }

@@ -11,7 +11,7 @@ ghost use Rattle.afdx_text.specs.OutLines.{refused_line, remark_line};
 use crate::numeral::Numeral;
 use crate::piece::{put, put_digits, put_number, put_piece, put_small};
 use crate::place::Place;
-use afdx_lists::FrameKind;
+use afdx_input_lines::FrameKind;
 use afdx_police::Reason;
 use afdx_receive::DropReason;
 

@@ -1,6 +1,6 @@
 //! The lines of the program's output, the text that they are put into, and where that goes.
 //!
-//! Its tests are in `afdx_part_tests`.
+//! Its tests are in `afdx_test_parts`.
 #![tactic(auto)]
 
 mod check_lines;

@@ -2,13 +2,15 @@
 
 ghost use Rattle.std.specs.Prelude.{◌≡◌, ◌≤◌, ◌+◌, ◌++◌, length, take};
 
-use crate::check_lines::{put_bounds, put_denial, put_end_to_end, put_margin, put_switch};
+use crate::check_lines::{
+    put_apart, put_bounds, put_denial, put_end_to_end, put_margin, put_switch,
+};
 use crate::conform_line::{ConformLine, MOST_OF_CONFORM};
 use crate::kinds::{Kept, put_loss, put_refusal, put_remark, put_verdict};
 use crate::piece::put;
 use crate::site::Site;
 use afdx_frame::VlId;
-use afdx_lists::FrameKind;
+use afdx_input_lines::FrameKind;
 use afdx_police::Reason;
 use afdx_receive::DropReason;
 use std::alloc::AllocError;
@@ -98,6 +100,12 @@ pub enum OutLine<'a> {
     EndToEnd {
         vl: VlId,
         system: &'a str,
+        ns: Option<u64>,
+    },
+    /// How far apart the copies of a frame of a link may be sent on the two networks: `apart vl
+    /// ns`, or `-` where no system gets it.
+    Apart {
+        vl: VlId,
         ns: Option<u64>,
     },
     /// What is found at a switch that was recorded, or the last line.
@@ -233,6 +241,7 @@ impl OutLine<'_> {
             OutLine::Denied { line } => put_denial(room, at, line),
             OutLine::Switch { name } => put_switch(room, at, name),
             OutLine::EndToEnd { vl, system, ns } => put_end_to_end(room, at, vl.0, system, *ns),
+            OutLine::Apart { vl, ns } => put_apart(room, at, vl.0, *ns),
             OutLine::Conform(line) => line.put_at(room, at),
         }
     }

@@ -2,8 +2,8 @@
 
 ghost use Rattle.std.specs.Prelude.{◌≡◌, ◌≤◌, ◌+◌, [], Bool, OnOk, OnErr, IfOk, IfErr, false, true, is_err, nat_eq};
 ghost use Rattle.std.specs.Io.KnownBytes.{Appends, Keeps};
-ghost use Rattle.afdx_lists.specs.Calls.{AppendsFront, is_failed_write};
-ghost use Rattle.afdx_lists.specs.Watching.{has_failed};
+ghost use Rattle.afdx_input_lines.specs.Calls.{AppendsFront, is_failed_write};
+ghost use Rattle.afdx_input_lines.specs.Watching.{has_failed};
 ghost use Rattle.afdx_text.specs.Flushing.{HandsOn};
 ghost use Rattle.afdx_text.specs.OutLines.{line_text};
 ghost use Rattle.afdx_text.specs.Outputs.{written, held_bytes, room_of, is_at_once};
@@ -14,7 +14,7 @@ use crate::line::OutLine;
 use crate::sink::Sink;
 use crate::text::Text;
 use crate::writing::hand_bytes;
-use afdx_lists::{RunFault, Told, Watched};
+use afdx_input_lines::{RunFault, Told, Watched};
 use std::alloc::{AllocError, Global};
 use std::io::Write;
 

@@ -2,15 +2,15 @@
 
 ghost use Rattle.std.specs.Prelude.{◌≡◌, ℕ, Bool, List, Option, OnOk, OnErr, IfErr, false};
 ghost use Rattle.std.specs.Io.KnownBytes.{Appends};
-ghost use Rattle.afdx_lists.specs.Calls.{AppendsFront, is_failed_write};
-ghost use Rattle.afdx_lists.specs.Watching.{device_of, has_failed};
+ghost use Rattle.afdx_input_lines.specs.Calls.{AppendsFront, is_failed_write};
+ghost use Rattle.afdx_input_lines.specs.Watching.{device_of, has_failed};
 ghost use Rattle.afdx_text.specs.OutLines.{line_text};
 ghost use Rattle.afdx_text.specs.Sinks.{IsOfOutput};
 
 use crate::line::OutLine;
 use crate::text::Text;
 use crate::writing::write_text;
-use afdx_lists::{RunFault, Watched};
+use afdx_input_lines::{RunFault, Watched};
 use std::io::Write;
 
 /// Takes the lines of the output, one after another.

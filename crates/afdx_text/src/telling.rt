@@ -5,7 +5,7 @@ ghost use Rattle.afdx_text.specs.Telling.{Tells, TellsFault};
 
 use crate::fault_line::{LONGEST_LINE, put_fault};
 use crate::writing::write_text;
-use afdx_lists::{RunFault, Watched};
+use afdx_input_lines::{RunFault, Watched};
 use arrayvec::ArrayString;
 use itoa::Buffer;
 use std::io::Write;

@@ -2,10 +2,10 @@
 
 ghost use Rattle.std.specs.Prelude.{◌≡◌, ◌≤◌, ◌+◌, OnOk, OnErr, IfErr, false, length, nat_lt, take};
 ghost use Rattle.std.specs.Io.KnownBytes.{Appends};
-ghost use Rattle.afdx_lists.specs.Calls.{AppendsFront, is_failed_write};
-ghost use Rattle.afdx_lists.specs.Watching.{calls_of, device_of, flush_has_failed, has_failed};
+ghost use Rattle.afdx_input_lines.specs.Calls.{AppendsFront, is_failed_write};
+ghost use Rattle.afdx_input_lines.specs.Watching.{calls_of, device_of, flush_has_failed, has_failed};
 
-use afdx_lists::{RunFault, Watched};
+use afdx_input_lines::{RunFault, Watched};
 use std::io::Write;
 
 /// Hands bytes to a device until it fails, or takes none of some, and gives how many it took. Each

@@ -38,7 +38,7 @@ from afdx_tools.icd.document import Document
 from afdx_tools.icd.layout import any_text, asked_text, config_text, naming_text, with_solved
 from afdx_tools.icd.making import text_with
 from afdx_tools.icd.reading import add_document_words, read_document
-from afdx_tools.icd.room import room_of, roomy
+from afdx_tools.icd.room import Room, room_of, roomy
 from afdx_tools.icd.untimely import late_lines, refusal
 from afdx_tools.naming import with_table
 from afdx_tools.outputs import finished
@@ -47,6 +47,7 @@ from afdx_tools.solving import bounds, check, overloads, read_admitted, solve
 TOOL = "afdx-icd"
 MOST_REPORTED = 20  # lines of what is wrong
 MOST_RESERVE = 1000  # percent
+MOST_APART = 100_000_000  # ns
 
 
 def say(lines: list[str]) -> None:
@@ -87,7 +88,7 @@ def run() -> int:
     since = None if args.since is None else read_earlier(args.since, document)
     if document.cabling is not None:
         return make_several(args, Cascade(document, document.cabling), since)
-    solved = solve(asked_text(document))
+    solved = solve(asked_text(document), Room(args.reserve, args.apart).solve_options())
     if solved.line:
         lines = overloads(solved.line, any_text(document))
         say([refusal(document, line) for line in lines])
@@ -99,7 +100,8 @@ def make_several(args: argparse.Namespace, cascade: Cascade, since: dict | None)
     """Makes the configuration of several switches a side; the status."""
     say(left_out(cascade))
     old = [] if since is None else since["switch"]
-    late, values = made_of(cascade, args.reserve, Values.of(old), args.raised)
+    room = Room(args.reserve, args.apart)
+    late, values = made_of(cascade, room, Values.of(old), args.raised)
     say(late)
     if values is None:
         return 1
@@ -110,7 +112,7 @@ def make_several(args: argparse.Namespace, cascade: Cascade, since: dict | None)
 def make(args: argparse.Namespace, document: Document, tables: dict, since: dict | None) -> int:
     """Makes the configuration with these tables and the room that is asked for, if no message is
     late; the status."""
-    room, proved = room_of(args.reserve, since), bounds(config_text(document, tables))
+    room, proved = room_of(args.reserve, args.apart, since), bounds(config_text(document, tables))
     late = late_lines(document, proved.latencies, room.enough_us(proved), args.reserve)
     say(late)
     if late and not args.raised:
@@ -143,6 +145,8 @@ def words() -> argparse.ArgumentParser:
     add("--raise", dest="raised", action="store_true", help=raised)
     reserve = "let latencies and buffer be so much more than is needed, for what comes later (0)"
     add("--reserve", type=whole(0, MOST_RESERVE), default=0, metavar="PERCENT", help=reserve)
+    apart = "by how many ns one copy of a frame may be sent later than the other (0)"
+    add("--apart", type=whole(0, MOST_APART), default=0, metavar="NS", help=apart)
     since = "an earlier configuration: keep what is still enough, and print what changed, and why"
     add("--since", metavar="OLD", help=since)
     return parser

@@ -29,16 +29,16 @@ def left_out(cascade: Cascade) -> list[str]:
     return [text + ", ".join(pairs)] if pairs else []
 
 
-def made_of(cascade: Cascade, reserve: int, old: Values, is_raised: bool) -> Made:
-    """The configuration with the latencies that the document allows; where they aren't enough for a
-    message there is none, unless it may be raised."""
-    new, again = (Making(cascade, Room(reserve), values) for values in (Values(), old))
+def made_of(cascade: Cascade, room: Room, old: Values, is_raised: bool) -> Made:
+    """The configuration with the latencies that the document allows and the room that is asked for;
+    where they aren't enough for a message there is none, unless it may be raised."""
+    new, again = (Making(cascade, room, values) for values in (Values(), old))
     try:
         least = roomy = new.solved({})
-        if reserve:
+        if room.reserve:
             roomy = new.with_room(least.latencies)
         enough = needed(cascade, roomy.latencies)
-        late = late_lines(cascade, least.latencies, enough, reserve)
+        late = late_lines(cascade, least.latencies, enough, room.reserve)
         if late and not is_raised:
             return Made(late, None)
         return Made(late, again.with_buffers(given_out(again, roomy)))

@@ -7,7 +7,7 @@ from typing import Iterator, Mapping
 from afdx_tools.faults import shown
 from afdx_tools.icd.cascade import Cascade, Place, Receiver
 from afdx_tools.icd.document import MOST_BUFFER, Message
-from afdx_tools.icd.untimely import MOST_JITTER
+from afdx_tools.icd.untimely import MOST_JITTER, too_far_apart
 from afdx_tools.spreadsheets.cells import MOST_US
 
 
@@ -110,6 +110,8 @@ def refusal(cascade: Cascade, line: str) -> str:
             text = f"{at}: its messages can hold one up for {needed} ns; {MOST_JITTER} are the most"
         case ["no", "B3" | "B4", switch, vl, needed]:
             text = too_long(cascade, switch, int(vl), needed)
+        case ["no", "apart", _, vl, _]:
+            text = too_far_apart(document, int(vl), f"over {MOST_US} us")
         case _:
             text = "the tables are refused"
     return f"{text} ({line})"

@@ -104,7 +104,7 @@ class Making:
         """The least values with which the network is admitted, no latency less than is asked;
         Unsolved where there are none."""
         values = Values(latencies=dict(asked), skews=self.skews)
-        found = solve(text_with(self.cascade, values))
+        found = solve(text_with(self.cascade, values), self.room.solve_options())
         if found.line:
             lines = overloads(found.line, text_with(self.cascade, any_values(self.cascade)))
             raise Unsolved(*(refusal(self.cascade, line) for line in lines))

@@ -52,6 +52,12 @@ def too_full(document: Document, port: int, needed: str, room: str = "") -> str:
     return f"{row.at('port')}: {needed} bytes can wait there{room}; it has room for {MOST_BUFFER}"
 
 
+def too_far_apart(document: Document, vl: int, needs: str) -> str:
+    """A message whose copies can't be sent as far apart as is asked for."""
+    at = document.messages[vl][0].row.at("within_us")
+    return f"{at}: its copies can't be sent so far apart: that takes a skew of {needs}"
+
+
 def refusal(document: Document, line: str) -> str:
     """A line of admission that no values make true, in the words of the document."""
     match line.split():
@@ -65,6 +71,8 @@ def refusal(document: Document, line: str) -> str:
         case ["no", "A5", system, needed]:
             at = document.system_rows[document.called(system)].at("rate")
             text = f"{at}: its messages can hold one up for {needed} ns; {MOST_JITTER} are the most"
+        case ["no", "apart", vl, _]:
+            text = too_far_apart(document, int(vl), f"over {MOST_US} us")
         case _:
             text = "the tables are refused"
     return f"{text} ({line})"

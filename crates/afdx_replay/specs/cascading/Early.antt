@@ -5,13 +5,13 @@ use Rattle.std.specs.Prelude.{codes, decimal}
 use Rattle.afdx_cascade.specs.Plans.{tables_of}
 use Rattle.afdx_cascade.specs.SwitchEvents.{SwitchEvent, came_to}
 use Rattle.afdx_config.specs.Switches.{NamedRows}
-use Rattle.afdx_lists.specs.declared.watched.Watched.{Watched}
+use Rattle.afdx_input_lines.specs.declared.watched.Watched.{Watched}
 use Rattle.afdx_network.specs.Events.{Event, Came, Left, Admission}
 use Rattle.afdx_police.specs.Verdicts.{is_over_rate}
 use Rattle.afdx_switch.specs.Early.{IsEarlyBy}
 use Rattle.afdx_text.specs.OutLines.{place_text}
 use Rattle.afdx_text.specs.Telling.{Tells}
-use Rattle.afdx_inputs.specs.ListText.{switch_name}
+use Rattle.afdx_input_runs.specs.ListText.{switch_name}
 use Rattle.afdx_replay.specs.replaying.Early.{IsOneMore}
 
 -- the frame of line n came so many nanoseconds too early at a place
@@ -25,7 +25,8 @@ module _ (switches : List NamedRows) where
   abbrev pub IsLineOn : ℕ → List SwitchEvent → Admission → Bool → List ℕ → Type 0
   IsLineOn k before c true line =
       (wait : ℕ) × IsEarlyBy (tables_of switches k) (came_to k before) c.arrival wait
-      × (line ≡ early_line_at c.arrival.tag (place_text c.arrival.side (switch_name switches k)) wait)
+      × (line ≡
+      early_line_at c.arrival.tag (place_text c.arrival.side (switch_name switches k)) wait)
   IsLineOn k before c false line = line ≡ []
 
   abbrev pub IsLineOf : ℕ → List SwitchEvent → Event → List ℕ → Type 0

@@ -1,28 +1,28 @@
 -- What a replay of several switches a side does, whatever gives it its frames.
 use Rattle.std.specs.Prelude.{ℕ, ◌≡◌, List, Option, Some, Result, Ok, Err, IfSome}
-use Rattle.afdx_commands.specs.declared.summary.Summary.{Summary}
+use Rattle.afdx_command_tables.specs.declared.summary.Summary.{Summary}
 use Rattle.afdx_config.specs.Switches.{NamedRows}
-use Rattle.afdx_engine.specs.Engine.{Item}
-use Rattle.afdx_engine.specs.Items.{thing_of}
+use Rattle.afdx_input_sources.specs.Engine.{Item}
+use Rattle.afdx_input_sources.specs.Items.{thing_of}
 use Rattle.afdx_frame.specs.declared.by_side.BySide.{BySide}
-use Rattle.afdx_inputs.specs.InputRun.{InputAnswers, is_read_recorded}
-use Rattle.afdx_inputs.specs.RecordingRun.{AreCutOffInPair, IfBothKnown, taken_of_pair}
-use Rattle.afdx_inputs.specs.TakenRun.{TakenAnswers}
-use Rattle.afdx_inputs.specs.declared.input_run.InputCount.{InputCount}
-use Rattle.afdx_inputs.specs.declared.input_run.InputCount.TheVariants.{Lines as Counted, Recorded}
-use Rattle.afdx_lists.specs.Peeking.{left_in}
-use Rattle.afdx_lists.specs.SitedLines.{sited_frame}
-use Rattle.afdx_lists.specs.Watching.{device_of}
-use Rattle.afdx_lists.specs.declared.fault.RunFault.{RunFault}
-use Rattle.afdx_lists.specs.declared.frame_line.Heading.{Heading}
-use Rattle.afdx_lists.specs.declared.peeked.Peeked.{Peeked}
-use Rattle.afdx_lists.specs.declared.watched.Watched.{Watched}
-use Rattle.afdx_recorded.specs.Becoming.{options_of}
-use Rattle.afdx_recorded.specs.Claims.{ports_of_several}
-use Rattle.afdx_recorded.specs.NumberLines.{Lines, arrivals_listed}
-use Rattle.afdx_recorded.specs.Taking.{Taken}
-use Rattle.afdx_recorded.specs.declared.becoming.RecordingOptions.{RecordingOptions}
-use Rattle.afdx_recorded.specs.declared.pair_options.PairOptions.{PairOptions}
+use Rattle.afdx_input_runs.specs.InputRun.{InputAnswers, is_read_recorded}
+use Rattle.afdx_input_runs.specs.RecordingRun.{AreCutOffInPair, IfBothKnown, taken_of_pair}
+use Rattle.afdx_input_runs.specs.TakenRun.{TakenAnswers}
+use Rattle.afdx_input_runs.specs.declared.input_run.InputCount.{InputCount}
+use Rattle.afdx_input_runs.specs.declared.input_run.InputCount.TheVariants.{Lines as Counted, Recorded}
+use Rattle.afdx_input_lines.specs.Peeking.{left_in}
+use Rattle.afdx_input_lines.specs.SitedLines.{sited_frame}
+use Rattle.afdx_input_lines.specs.Watching.{device_of}
+use Rattle.afdx_input_lines.specs.declared.fault.RunFault.{RunFault}
+use Rattle.afdx_input_lines.specs.declared.frame_line.Heading.{Heading}
+use Rattle.afdx_input_lines.specs.declared.peeked.Peeked.{Peeked}
+use Rattle.afdx_input_lines.specs.declared.watched.Watched.{Watched}
+use Rattle.afdx_input_sources.specs.Becoming.{options_of}
+use Rattle.afdx_input_sources.specs.Claims.{ports_of_several}
+use Rattle.afdx_input_sources.specs.NumberLines.{Lines, arrivals_listed}
+use Rattle.afdx_input_sources.specs.Taking.{Taken}
+use Rattle.afdx_input_sources.specs.declared.becoming.RecordingOptions.{RecordingOptions}
+use Rattle.afdx_input_sources.specs.declared.pair_options.PairOptions.{PairOptions}
 use Rattle.afdx_replay.specs.Inputs.{answer_of}
 use Rattle.afdx_replay.specs.cascading.Items.{BeginsItems, TellsAll, TellsItems}
 use Rattle.afdx_replay.specs.cascading.Ran.{AllIsTold, AllSoFarIsTold, SomeIsTold}

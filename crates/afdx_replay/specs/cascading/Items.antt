@@ -3,10 +3,10 @@ use Rattle.std.specs.Prelude.{ℕ, ◌≤◌, List, length, Option}
 use Rattle.afdx_frame.specs.Times.{latest_listed}
 use Rattle.afdx_cascade.specs.Cascade as cascade
 use Rattle.afdx_config.specs.Switches.{NamedRows}
-use Rattle.afdx_engine.specs.Engine.{Item}
-use Rattle.afdx_engine.specs.Items.{most_frames}
-use Rattle.afdx_lists.specs.declared.frame_line.Heading.{Heading}
-use Rattle.afdx_lists.specs.declared.watched.Watched.{Watched}
+use Rattle.afdx_input_sources.specs.Engine.{Item}
+use Rattle.afdx_input_sources.specs.Items.{most_frames}
+use Rattle.afdx_input_lines.specs.declared.frame_line.Heading.{Heading}
+use Rattle.afdx_input_lines.specs.declared.watched.Watched.{Watched}
 use Rattle.afdx_replay.specs.cascading.Ran.{AllIsTold, SomeIsTold}
 use Rattle.afdx_replay.specs.cascading.Sited.{lines_in}
 use Rattle.afdx_replay.specs.cascading.Told.{AreInTime, AreSteady, AreTold, latest_line}

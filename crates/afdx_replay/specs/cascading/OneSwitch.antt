@@ -8,12 +8,12 @@ use Rattle.afdx_cascade.specs.Runs.{Line, AreAll}
 use Rattle.afdx_cascade.specs.SwitchEvents.{SwitchEvent, at_switch, came_to}
 use Rattle.afdx_config.specs.Rows.{Rows}
 use Rattle.afdx_config.specs.Switches.{NamedRows, AreSwitches}
-use Rattle.afdx_engine.specs.Lists.{items_of}
+use Rattle.afdx_input_sources.specs.Lists.{items_of}
 use Rattle.afdx_network.specs.Events.{Event}
 use Rattle.afdx_network.specs.Order.{events_of}
 use Rattle.afdx_replay.specs.cascading.Ran.{AreInParts, lists}
 use Rattle.afdx_replay.specs.cascading.Text.{cascade_text, cascade_counts, own_text}
-use Rattle.afdx_inputs.specs.ListText.{switch_name}
+use Rattle.afdx_input_runs.specs.ListText.{switch_name}
 use Rattle.afdx_replay.specs.replaying.Text.{lines_at, replay_text, replay_counts}
 
 -- each line is at one of the switches

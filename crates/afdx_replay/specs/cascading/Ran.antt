@@ -4,12 +4,12 @@ use Rattle.std.specs.Prelude.{ℕ, ◌≡◌, ◌<◌, ◌≤◌, ◌*◌, List,
 use Rattle.std.specs.Prelude.{Option, Some, Result, Ok, Err}
 use Rattle.std.specs.Io.KnownBytes.{Appends}
 use Rattle.afdx_frame.specs.declared.link.Side.{Side}
-use Rattle.afdx_lists.specs.Lines.{lines_of as lines_in}
-use Rattle.afdx_lists.specs.SitedLines.{SitedFrame}
-use Rattle.afdx_lists.specs.declared.fault.RunFault.{RunFault}
-use Rattle.afdx_engine.specs.Lists.{Kind, items_of, HaveNoFault}
-use Rattle.afdx_engine.specs.Stops.{StopsIn}
-use Rattle.afdx_commands.specs.Counts.{with_lines}
+use Rattle.afdx_input_lines.specs.Lines.{lines_of as lines_in}
+use Rattle.afdx_input_lines.specs.SitedLines.{SitedFrame}
+use Rattle.afdx_input_lines.specs.declared.fault.RunFault.{RunFault}
+use Rattle.afdx_input_sources.specs.Lists.{Kind, items_of, HaveNoFault}
+use Rattle.afdx_input_sources.specs.Stops.{StopsIn}
+use Rattle.afdx_command_tables.specs.Counts.{with_lines}
 use Rattle.afdx_replay.specs.cascading.Sited.{sited_frames, sites_of}
 use Rattle.afdx_cascade.specs.EndToEnd.{AreAllEvents}
 use Rattle.afdx_cascade.specs.Kept.{KeepsEndToEnd, KeepsEndToEndSoFar}
@@ -20,10 +20,10 @@ use Rattle.afdx_cascade.specs.Runs.{Line, Runs, AreAll}
 use Rattle.afdx_cascade.specs.SwitchEvents.{End, SwitchEvent, FrameTest, accepted_by, at_switch}
 use Rattle.afdx_cascade.specs.SwitchEvents.{HaveBroughtAll, came_to, count_if, passes}
 use Rattle.afdx_network.specs.Order.{events_of}
-use Rattle.afdx_commands.specs.declared.summary.Summary.{Summary}
+use Rattle.afdx_command_tables.specs.declared.summary.Summary.{Summary}
 use Rattle.afdx_config.specs.Switches.{AreSwitches, NamedRows}
-use Rattle.afdx_lists.specs.Calls.{AppendsFront}
-use Rattle.afdx_lists.specs.declared.watched.Watched.{Watched}
+use Rattle.afdx_input_lines.specs.Calls.{AppendsFront}
+use Rattle.afdx_input_lines.specs.declared.watched.Watched.{Watched}
 use Rattle.afdx_replay.specs.cascading.Early.{HearsEarly}
 use Rattle.afdx_replay.specs.cascading.Text.{cascade_text, cascade_counts, own_text}
 use Rattle.afdx_replay.specs.cascading.Told.{EndsAtLine}

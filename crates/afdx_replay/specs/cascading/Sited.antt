@@ -6,12 +6,12 @@ use Rattle.afdx_frame.specs.Ports.{last_port}
 use Rattle.afdx_cascade.specs.Plans.{plan_of}
 use Rattle.afdx_cascade.specs.Runs.{Line}
 use Rattle.afdx_config.specs.Switches.{NamedRows, far_end}
-use Rattle.afdx_engine.specs.Engine.{Item}
-use Rattle.afdx_engine.specs.Lists.{Kind}
-use Rattle.afdx_engine.specs.Listed.{arrival_at}
-use Rattle.afdx_lists.specs.SitedLines.{NamedCables, SitedFrame, sited_frame, sited_line_says, is_cable_at}
-use Rattle.afdx_lists.specs.declared.frame_line.Heading.{Heading}
-use Rattle.afdx_inputs.specs.ListText.{switch_name}
+use Rattle.afdx_input_sources.specs.Engine.{Item}
+use Rattle.afdx_input_sources.specs.Lists.{Kind}
+use Rattle.afdx_input_sources.specs.Listed.{arrival_at}
+use Rattle.afdx_input_lines.specs.SitedLines.{NamedCables, SitedFrame, sited_frame, sited_line_says, is_cable_at}
+use Rattle.afdx_input_lines.specs.declared.frame_line.Heading.{Heading}
+use Rattle.afdx_input_runs.specs.ListText.{switch_name}
 
 module _ (switches : List NamedRows) where
   -- at the place of a port's number, from 0, whether a cable is there

@@ -4,9 +4,9 @@ use Rattle.std.specs.Prelude.{ℕ, ◌==◌, if◌then◌else◌, List, [], ◌�
 use Rattle.afdx_config.specs.Switches.{NamedRows}
 use Rattle.afdx_cascade.specs.Plans.{tables_of}
 use Rattle.afdx_cascade.specs.SwitchEvents.{SwitchEvent, at_switch}
-use Rattle.afdx_commands.specs.Counts.{no_counts}
-use Rattle.afdx_commands.specs.declared.summary.Summary.{Summary}
-use Rattle.afdx_inputs.specs.ListText.{switch_name}
+use Rattle.afdx_command_tables.specs.Counts.{no_counts}
+use Rattle.afdx_command_tables.specs.declared.summary.Summary.{Summary}
+use Rattle.afdx_input_runs.specs.ListText.{switch_name}
 use Rattle.afdx_replay.specs.replaying.Text.{lines_at, with_event}
 
 module _ (switches : List NamedRows) where

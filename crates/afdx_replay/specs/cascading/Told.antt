@@ -15,11 +15,11 @@ use Rattle.afdx_cascade.specs.declared.cascade.Cascade.{Cascade}
 use Rattle.afdx_cascade.specs.declared.told.Brought.{Brought}
 use Rattle.afdx_cascade.specs.declared.told.Happened.{Happened}
 use Rattle.afdx_cascade.specs.declared.told.Happened.TheVariants.{Over, Came}
-use Rattle.afdx_commands.specs.declared.summary.Summary.{Summary}
+use Rattle.afdx_command_tables.specs.declared.summary.Summary.{Summary}
 use Rattle.afdx_config.specs.Switches.{NamedRows}
 use Rattle.afdx_end_systems.specs.StandsFor as systems
 use Rattle.afdx_end_systems.specs.declared.systems.Systems.{Systems}
-use Rattle.afdx_lists.specs.declared.watched.Watched.{Watched}
+use Rattle.afdx_input_lines.specs.declared.watched.Watched.{Watched}
 use Rattle.afdx_replay.specs.cascading.Early.{HearsEarly}
 use Rattle.afdx_replay.specs.cascading.Text.{cascade_text, cascade_counts, event_lines}
 use Rattle.afdx_replay.specs.declared.cascading.teller.Teller.{Teller}
@@ -62,8 +62,8 @@ module _ (switches : List NamedRows) where
         ≡ with_event (tables_of switches h.switch) (at_switch h.switch before) h.event old_counts
     pub written : Appends old new (event_lines switches before h)
 
-  -- these are the first events of each list that begins with these lines, the newest first, and goes
-  -- on at `until` or later
+  -- these are the first events of each list that begins with these lines, the newest first, and
+  -- goes on at `until` or later
   abbrev pub AreFirst : List Line → (until : ℕ) → List SwitchEvent → Type 0
   AreFirst past until events =
       (later : List Line) → AreFrom until later →

@@ -1,13 +1,13 @@
 -- What a command that polices one link is given, and how it ends.
 use Rattle.std.specs.Prelude.{ℕ, ◌≤◌, Bool, List, Option, Result, IfSome}
-use Rattle.afdx_commands.specs.Commands.{EndsAs}
-use Rattle.afdx_commands.specs.declared.ending.Ended.{Ended}
-use Rattle.afdx_commands.specs.declared.summary.Summary.{Summary}
+use Rattle.afdx_command_tables.specs.Commands.{EndsAs}
+use Rattle.afdx_command_tables.specs.declared.ending.Ended.{Ended}
+use Rattle.afdx_command_tables.specs.declared.summary.Summary.{Summary}
 use Rattle.afdx_frame.specs.Lengths.{least_frame}
 use Rattle.afdx_frame.specs.declared.link.Policing.TheVariants.{Byte}
-use Rattle.afdx_lists.specs.Watching.{device_of}
-use Rattle.afdx_lists.specs.declared.fault.RunFault.{RunFault}
-use Rattle.afdx_lists.specs.declared.watched.Watched.{Watched}
+use Rattle.afdx_input_lines.specs.Watching.{device_of}
+use Rattle.afdx_input_lines.specs.declared.fault.RunFault.{RunFault}
+use Rattle.afdx_input_lines.specs.declared.watched.Watched.{Watched}
 use Rattle.afdx_police.specs.Rule.{IsRule, Rule, rule_with}
 use Rattle.afdx_replay.specs.declared.policing.command.CommandedRule.{CommandedRule}
 use Rattle.afdx_replay.specs.policing.Policed.{Answers}

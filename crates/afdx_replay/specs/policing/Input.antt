@@ -2,9 +2,9 @@
 use Rattle.std.specs.Prelude.{◌≡◌, List, Result}
 use Rattle.afdx_police.specs.Arrival.{Arrival}
 use Rattle.afdx_police.specs.Rule.{Rule}
-use Rattle.afdx_lists.specs.declared.fault.RunFault.{RunFault}
-use Rattle.afdx_inputs.specs.Arrivals.{By}
-use Rattle.afdx_inputs.specs.declared.input_run.InputCount.{InputCount}
+use Rattle.afdx_input_lines.specs.declared.fault.RunFault.{RunFault}
+use Rattle.afdx_input_runs.specs.Arrivals.{By}
+use Rattle.afdx_input_runs.specs.declared.input_run.InputCount.{InputCount}
 use Rattle.afdx_replay.specs.Inputs.{answer_of}
 use Rattle.afdx_replay.specs.policing.Policed.{WritesText, WritesBeginning}
 use Rattle.afdx_replay.specs.policing.Text.{counts_of}

@@ -7,7 +7,7 @@ pub use Rattle.afdx_police.specs.Words.{reason_word as reason_text}
 use Rattle.afdx_police.specs.Arrival.{Arrival}
 use Rattle.afdx_police.specs.Rule.{Rule}
 use Rattle.afdx_police.specs.Verdicts.{verdict_in}
-use Rattle.afdx_commands.specs.declared.summary.Summary.{Summary}
+use Rattle.afdx_command_tables.specs.declared.summary.Summary.{Summary}
 pub use Rattle.afdx_text.specs.OutLines.{side_text, verdict_text, verdict_line}
 
 -- each arrival's line has the verdict on it after those before it

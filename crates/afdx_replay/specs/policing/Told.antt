@@ -4,11 +4,11 @@ use Rattle.afdx_frame.specs.declared.by_side.BySide.{BySide}
 use Rattle.afdx_police.specs.Arrival.{Arrival}
 use Rattle.afdx_police.specs.Rule.{Rule}
 use Rattle.afdx_police.specs.declared.account.LinkAccount.{LinkAccount}
-use Rattle.afdx_lists.specs.declared.frame_line.Heading.{Heading}
-use Rattle.afdx_engine.specs.Engine.{Item}
-use Rattle.afdx_engine.specs.Items.{arrivals}
-use Rattle.afdx_engine.specs.Listed.{frames}
-use Rattle.afdx_engine.specs.Lists.{latest_in}
+use Rattle.afdx_input_lines.specs.declared.frame_line.Heading.{Heading}
+use Rattle.afdx_input_sources.specs.Engine.{Item}
+use Rattle.afdx_input_sources.specs.Items.{arrivals}
+use Rattle.afdx_input_sources.specs.Listed.{frames}
+use Rattle.afdx_input_sources.specs.Lists.{latest_in}
 use Rattle.afdx_replay.specs.policing.Text.{count_judged}
 use Rattle.afdx_replay.specs.policing.Policed.{WritesText, WritesBeginning}
 use Rattle.afdx_replay.specs.policing.Accounts.{HaveSeen, AreUntil}

@@ -1,22 +1,23 @@
 -- What the command `replay` does, whatever its configuration describes.
 use Rattle.std.specs.Prelude.{ℕ, ◌≡◌, Bool, true, List, Option, Result, IfSome}
-use Rattle.afdx_commands.specs.Checking.{IsAdmittedFile, IsRead}
-use Rattle.afdx_commands.specs.Commands.{EndsAs}
-use Rattle.afdx_commands.specs.declared.ending.Ended.{Ended}
-use Rattle.afdx_commands.specs.declared.summary.Summary.{Summary}
+use Rattle.afdx_command_tables.specs.Checking.{IsAdmittedFile, IsRead}
+use Rattle.afdx_command_tables.specs.Commands.{EndsAs}
+use Rattle.afdx_command_tables.specs.declared.ending.Ended.{Ended}
+use Rattle.afdx_command_tables.specs.declared.summary.Summary.{Summary}
 use Rattle.afdx_config.specs.Rows.{Rows}
 use Rattle.afdx_config.specs.Switches.{NamedRows}
 use Rattle.afdx_config.specs.declared.describing.Described.{Described}
 use Rattle.afdx_config.specs.declared.describing.Described.TheVariants.{One, Several}
-use Rattle.afdx_lists.specs.Watching.{device_of}
-use Rattle.afdx_lists.specs.declared.fault.RunFault.{RunFault}
-use Rattle.afdx_lists.specs.declared.watched.Watched.{Watched}
+use Rattle.afdx_input_lines.specs.Watching.{device_of}
+use Rattle.afdx_input_lines.specs.declared.fault.RunFault.{RunFault}
+use Rattle.afdx_input_lines.specs.declared.watched.Watched.{Watched}
 use Rattle.afdx_replay.specs.cascading.Ran as cascade
 use Rattle.afdx_replay.specs.replaying.PromisedRun.{PromisedAnswers}
 use Rattle.afdx_replay.specs.replaying.Replayed.{Answers}
 
 -- this is so of the one switch of each side that a file describes, or this of the several
-abbrev pub OfOneOr : (one : Rows → Type 0) → (several : List NamedRows → Type 0) → Described → Type 0
+abbrev pub OfOneOr : (one : Rows → Type 0) → (several : List NamedRows → Type 0)
+    → Described → Type 0
 OfOneOr one several (One t) = one t
 OfOneOr one several (Several switches) = several switches
 

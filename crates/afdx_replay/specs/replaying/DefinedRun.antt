@@ -5,18 +5,18 @@ use Rattle.std.specs.Io.KnownBytes.{Appends}
 use Rattle.afdx_config.specs.Lawful.{IsLawfulSwitch}
 use Rattle.afdx_config.specs.Rows.{Rows}
 use Rattle.afdx_police.specs.Arrival.{Arrival}
-use Rattle.afdx_lists.specs.Lines.{lines_of}
-use Rattle.afdx_lists.specs.Calls.{AppendsFront}
-use Rattle.afdx_lists.specs.declared.fault.RunFault.{RunFault}
+use Rattle.afdx_input_lines.specs.Lines.{lines_of}
+use Rattle.afdx_input_lines.specs.Calls.{AppendsFront}
+use Rattle.afdx_input_lines.specs.declared.fault.RunFault.{RunFault}
 use Rattle.afdx_network.specs.Events.{Event}
-use Rattle.afdx_promises.specs.ByDefinition.{AreByDefinition, AreByDefinitionSoFar}
-use Rattle.afdx_engine.specs.Listed.{AreSound, arrivals_of}
+use Rattle.afdx_law_promises.specs.ByDefinition.{AreByDefinition, AreByDefinitionSoFar}
+use Rattle.afdx_input_sources.specs.Listed.{AreSound, arrivals_of}
 use Rattle.afdx_replay.specs.replaying.Replayed.{Answers}
 use Rattle.afdx_replay.specs.replaying.Promises.{AreListed}
-use Rattle.afdx_commands.specs.Counts.{with_lines}
+use Rattle.afdx_command_tables.specs.Counts.{with_lines}
 use Rattle.afdx_replay.specs.replaying.Text.{replay_text, replay_counts}
-use Rattle.afdx_engine.specs.Stops.{StopsAt}
-use Rattle.afdx_commands.specs.declared.summary.Summary.{Summary}
+use Rattle.afdx_input_sources.specs.Stops.{StopsAt}
+use Rattle.afdx_command_tables.specs.declared.summary.Summary.{Summary}
 
 -- all lines of the list were read, none has a fault, and the output, which held `old`, now holds
 -- after it the text of all events of its arrivals, by the definition, and they are counted

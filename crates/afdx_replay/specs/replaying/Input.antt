@@ -6,15 +6,15 @@ use Rattle.afdx_config.specs.Lawful.{IsLawfulSwitch}
 use Rattle.afdx_config.specs.Rows.{Rows}
 use Rattle.afdx_config.specs.Switches.{NamedRows}
 use Rattle.afdx_config.specs.declared.describing.Described.{Described}
-use Rattle.afdx_commands.specs.Checking.{IsAdmittedFile, IsRead}
+use Rattle.afdx_command_tables.specs.Checking.{IsAdmittedFile, IsRead}
 use Rattle.afdx_police.specs.Arrival.{Arrival}
-use Rattle.afdx_lists.specs.declared.fault.RunFault.{RunFault}
-use Rattle.afdx_lists.specs.declared.watched.Watched.{Watched}
+use Rattle.afdx_input_lines.specs.declared.fault.RunFault.{RunFault}
+use Rattle.afdx_input_lines.specs.declared.watched.Watched.{Watched}
 use Rattle.afdx_network.specs.Order.{events_of}
-use Rattle.afdx_inputs.specs.Arrivals.{By}
-use Rattle.afdx_inputs.specs.declared.input_run.InputCount.{InputCount}
-use Rattle.afdx_commands.specs.declared.summary.Summary.{Summary}
-use Rattle.afdx_recorded.specs.Claims.{Ports, ports_of_one}
+use Rattle.afdx_input_runs.specs.Arrivals.{By}
+use Rattle.afdx_input_runs.specs.declared.input_run.InputCount.{InputCount}
+use Rattle.afdx_command_tables.specs.declared.summary.Summary.{Summary}
+use Rattle.afdx_input_sources.specs.Claims.{Ports, ports_of_one}
 use Rattle.afdx_replay.specs.Inputs.{answer_of, EndsInputAs}
 use Rattle.afdx_replay.specs.Placed.{ArePlacedIn, IsNotRun}
 use Rattle.afdx_replay.specs.cascading.Input.{Answering}
@@ -94,9 +94,9 @@ pub record RunsIn (config : List ℕ) (admission : Bool) (so : Described → Typ
   pub admitted : admission ≡ true → IsAdmittedFile described
   pub so_is : so described
 
--- The command ends as its run answered: `so` is true of the answer, by the options with their places
--- in what the configuration describes, which is admitted if that is asked for. Or it isn't run, the
--- error output is told why, and what it was given is `untouched`.
+-- The command ends as its run answered: `so` is true of the answer, by the options with their
+-- places in what the configuration describes, which is admitted if that is asked for. Or it isn't
+-- run, the error output is told why, and what it was given is `untouched`.
 abbrev pub EndsInput : {P E : Type 0} → (Placed : Described → P → P → Type 0) →
     (Misplaced : Described → P → Type 0) → (error_bytes : E → Option (List ℕ)) →
     (config : List ℕ) → (admission : Bool) → (options : P) → (old_errors new_errors : Watched E) →

@@ -4,15 +4,15 @@ use Rattle.std.specs.Prelude.{ℕ, ◌≡◌, List, length, Option, Result, Ok, 
 use Rattle.std.specs.Io.KnownBytes.{Appends}
 use Rattle.afdx_config.specs.Rows.{Rows}
 use Rattle.afdx_police.specs.Arrival.{Arrival}
-use Rattle.afdx_lists.specs.Lines.{lines_of}
-use Rattle.afdx_lists.specs.Calls.{AppendsFront}
-use Rattle.afdx_lists.specs.declared.fault.RunFault.{RunFault}
-use Rattle.afdx_promises.specs.Lines.{Line}
-use Rattle.afdx_promises.specs.Promises.{KeepsPromises, KeepsPromisesSoFar, EachIsToldOnce, EachIsToldOnceSoFar, StreamsAreAccepted}
-use Rattle.afdx_engine.specs.Listed.{AreSound, arrivals_of}
+use Rattle.afdx_input_lines.specs.Lines.{lines_of}
+use Rattle.afdx_input_lines.specs.Calls.{AppendsFront}
+use Rattle.afdx_input_lines.specs.declared.fault.RunFault.{RunFault}
+use Rattle.afdx_law_promises.specs.Lines.{Line}
+use Rattle.afdx_law_promises.specs.Promises.{KeepsPromises, KeepsPromisesSoFar, EachIsToldOnce, EachIsToldOnceSoFar, StreamsAreAccepted}
+use Rattle.afdx_input_sources.specs.Listed.{AreSound, arrivals_of}
 use Rattle.afdx_replay.specs.replaying.Promises.{text_of, AreListed}
-use Rattle.afdx_engine.specs.Stops.{StopsAt}
-use Rattle.afdx_commands.specs.declared.summary.Summary.{Summary}
+use Rattle.afdx_input_sources.specs.Stops.{StopsAt}
+use Rattle.afdx_command_tables.specs.declared.summary.Summary.{Summary}
 
 -- of these arrivals and of all that leaves the output, which held `old`, now holds after it the
 -- text of lines that keep the promises, and nothing is lost or too old

@@ -5,11 +5,11 @@ use Rattle.afdx_config.specs.Rows.{Rows}
 use Rattle.afdx_police.specs.Arrival.{Arrival}
 use Rattle.afdx_switch.specs.Admitted.{IsAdmittedRun}
 use Rattle.afdx_network.specs.Order.{events_of, events_so_far}
-use Rattle.afdx_promises.specs.Lines.{Line, Verdict, Departed, Received, IsIn}
-use Rattle.afdx_promises.specs.Promises.{KeepsPromises, KeepsPromisesSoFar, EachIsToldOnce, EachIsToldOnceSoFar, StreamsAreAccepted}
-use Rattle.afdx_lists.specs.FrameLines.{ListedFrame}
+use Rattle.afdx_law_promises.specs.Lines.{Line, Verdict, Departed, Received, IsIn}
+use Rattle.afdx_law_promises.specs.Promises.{KeepsPromises, KeepsPromisesSoFar, EachIsToldOnce, EachIsToldOnceSoFar, StreamsAreAccepted}
+use Rattle.afdx_input_lines.specs.FrameLines.{ListedFrame}
 use Rattle.afdx_end_systems.specs.Receptions.{name_of, answer_line}
-use Rattle.afdx_engine.specs.Listed.{arrival_at, arrivals_of, said_after}
+use Rattle.afdx_input_sources.specs.Listed.{arrival_at, arrivals_of, said_after}
 use Rattle.afdx_replay.specs.policing.Text.{verdict_line}
 use Rattle.afdx_text.specs.OutLines.{side_text}
 use Rattle.afdx_replay.specs.replaying.Text.{departure_line, replay_text, replay_counts}

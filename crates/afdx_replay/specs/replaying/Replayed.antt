@@ -4,22 +4,22 @@ use Rattle.std.specs.Io.KnownBytes.{Appends}
 use Rattle.afdx_frame.specs.Ports.{last_port}
 use Rattle.afdx_config.specs.Rows.{Rows}
 use Rattle.afdx_police.specs.Arrival.{Arrival}
-use Rattle.afdx_lists.specs.Lines.{lines_of}
-use Rattle.afdx_lists.specs.Calls.{AppendsFront}
-use Rattle.afdx_lists.specs.declared.fault.RunFault.{RunFault}
+use Rattle.afdx_input_lines.specs.Lines.{lines_of}
+use Rattle.afdx_input_lines.specs.Calls.{AppendsFront}
+use Rattle.afdx_input_lines.specs.declared.fault.RunFault.{RunFault}
 use Rattle.afdx_end_systems.specs.StandsFor as systems
 use Rattle.afdx_end_systems.specs.declared.systems.Systems.{Systems}
 use Rattle.afdx_network.specs.Events.{Event, Left, Departure, arrivals_in}
 use Rattle.afdx_network.specs.Order.{IsAtArrival, events_of, events_so_far}
 use Rattle.afdx_network.specs.Network as network
 use Rattle.afdx_network.specs.declared.network.Network.{Network}
-use Rattle.afdx_engine.specs.Listed.{AreSound, arrivals_of}
-use Rattle.afdx_commands.specs.Counts.{with_lines}
+use Rattle.afdx_input_sources.specs.Listed.{AreSound, arrivals_of}
+use Rattle.afdx_command_tables.specs.Counts.{with_lines}
 use Rattle.afdx_replay.specs.replaying.Text.{replay_text, replay_counts, frames_left, lines_at}
 use Rattle.afdx_replay.specs.replaying.Text.{with_event}
-use Rattle.afdx_engine.specs.Stops.{StopsAt}
+use Rattle.afdx_input_sources.specs.Stops.{StopsAt}
 use Rattle.afdx_replay.specs.declared.replaying.run.Replay.{Replay}
-use Rattle.afdx_commands.specs.declared.summary.Summary.{Summary}
+use Rattle.afdx_command_tables.specs.declared.summary.Summary.{Summary}
 
 -- the greatest count of a run that may still grow
 abbrev pub most_counted : ℕ

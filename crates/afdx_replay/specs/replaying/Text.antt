@@ -7,8 +7,8 @@ use Rattle.afdx_end_systems.specs.Handovers.{HandedOver}
 use Rattle.afdx_end_systems.specs.Receptions.{reception_line, is_delivered}
 use Rattle.afdx_network.specs.Events.{Event, Came, Left, Admission, Departure}
 use Rattle.afdx_replay.specs.policing.Text.{verdict_line}
-use Rattle.afdx_commands.specs.Counts.{no_counts}
-use Rattle.afdx_commands.specs.declared.summary.Summary.{Summary}
+use Rattle.afdx_command_tables.specs.Counts.{no_counts}
+use Rattle.afdx_command_tables.specs.declared.summary.Summary.{Summary}
 use Rattle.afdx_replay.specs.declared.replaying.lines.Heard.{Heard}
 use Rattle.afdx_replay.specs.declared.replaying.lines.Heard.TheVariants.{Message, Nothing}
 pub use Rattle.afdx_text.specs.OutLines.{loss_line, letter_of, departure_line, place_text}

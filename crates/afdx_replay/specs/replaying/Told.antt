@@ -2,12 +2,12 @@
 use Rattle.std.specs.Prelude.{◌≤◌, List, length}
 use Rattle.afdx_frame.specs.Times.{latest_listed}
 use Rattle.afdx_config.specs.Rows.{Rows}
-use Rattle.afdx_lists.specs.declared.frame_line.Heading.{Heading}
+use Rattle.afdx_input_lines.specs.declared.frame_line.Heading.{Heading}
 use Rattle.afdx_network.specs.Network as network
-use Rattle.afdx_engine.specs.Engine.{Item}
-use Rattle.afdx_engine.specs.Items.{arrivals, most_frames}
-use Rattle.afdx_engine.specs.Listed.{frames}
-use Rattle.afdx_engine.specs.Lists.{latest_in}
+use Rattle.afdx_input_sources.specs.Engine.{Item}
+use Rattle.afdx_input_sources.specs.Items.{arrivals, most_frames}
+use Rattle.afdx_input_sources.specs.Listed.{frames}
+use Rattle.afdx_input_sources.specs.Lists.{latest_in}
 use Rattle.afdx_replay.specs.replaying.Replayed.{Known, TellsArrivals, HasRoomFor, WritesSome, ToldAll}
 use Rattle.afdx_replay.specs.declared.replaying.run.Replay.{Replay}
 

@@ -3,15 +3,15 @@
 ghost use Rattle.std.specs.Prelude.{◌≡◌, ◌+◌, ◌≤◌, OnOk, IfSome, true, false};
 ghost use Rattle.afdx_admit.specs.Cascade.{IsCascadeAdmitted};
 ghost use Rattle.afdx_config.specs.Switches.{AreSwitches};
-ghost use Rattle.afdx_lists.specs.Calls.{is_failed_read, is_failed_write};
-ghost use Rattle.afdx_lists.specs.Lines.{most_reads};
-ghost use Rattle.afdx_lists.specs.Watching.{calls_of, device_of, has_ended, has_failed};
+ghost use Rattle.afdx_input_lines.specs.Calls.{is_failed_read, is_failed_write};
+ghost use Rattle.afdx_input_lines.specs.Lines.{most_reads};
+ghost use Rattle.afdx_input_lines.specs.Watching.{calls_of, device_of, has_ended, has_failed};
 ghost use Rattle.afdx_replay.specs.cascading.Ran.{Answers};
 
 use crate::cascading::unadmitted::run_cascade_unadmitted;
 use afdx_admit::AdmittedSwitches;
-use afdx_commands::Summary;
-use afdx_lists::{RunFault, Watched};
+use afdx_command_tables::Summary;
+use afdx_input_lines::{RunFault, Watched};
 use std::alloc::Global;
 use std::io::{Read, Write};
 

@@ -6,7 +6,7 @@ ghost use Rattle.afdx_text.specs.Telling.{Tells};
 ghost use Rattle.afdx_replay.specs.cascading.Early.{early_line_at};
 
 use afdx_frame::Side;
-use afdx_lists::Watched;
+use afdx_input_lines::Watched;
 use afdx_text::{Site, tell, tell_number};
 use std::io::Write;
 

@@ -1,13 +1,13 @@
 //! A replay of several switches over whatever gives it its frames.
 
 ghost use Rattle.std.specs.Prelude.{◌≡◌, ◌≤◌, List, Option, Result, Err, OnOk, length, false};
-ghost use Rattle.afdx_lists.specs.declared.fault.RunFault.TheVariants.{Memory};
-ghost use Rattle.afdx_engine.specs.Engine.{CanTell, HoldsOfTold, IsReadyFor};
-ghost use Rattle.afdx_lists.specs.Calls.{is_failed_read, is_failed_write};
-ghost use Rattle.afdx_lists.specs.declared.fault.RunFault.{RunFault as Fault};
-ghost use Rattle.afdx_inputs.specs.declared.input_run.InputCount.{InputCount as Counted};
-ghost use Rattle.afdx_lists.specs.declared.watched.Watched.{Watched as Device};
-ghost use Rattle.afdx_commands.specs.declared.summary.Summary.{Summary};
+ghost use Rattle.afdx_input_lines.specs.declared.fault.RunFault.TheVariants.{Memory};
+ghost use Rattle.afdx_input_sources.specs.Engine.{CanTell, HoldsOfTold, IsReadyFor};
+ghost use Rattle.afdx_input_lines.specs.Calls.{is_failed_read, is_failed_write};
+ghost use Rattle.afdx_input_lines.specs.declared.fault.RunFault.{RunFault as Fault};
+ghost use Rattle.afdx_input_runs.specs.declared.input_run.InputCount.{InputCount as Counted};
+ghost use Rattle.afdx_input_lines.specs.declared.watched.Watched.{Watched as Device};
+ghost use Rattle.afdx_command_tables.specs.declared.summary.Summary.{Summary};
 ghost use Rattle.afdx_config.specs.Switches.{AreSwitches, NamedRows};
 ghost use Rattle.afdx_config.specs.declared.describing.Described.{Described as Configuration};
 ghost use Rattle.afdx_config.specs.declared.describing.Described.TheVariants as described;
@@ -20,11 +20,10 @@ use crate::cascading::run::Cascading;
 use crate::cascading::sites::{SitedLines, sites_of};
 use crate::input_ending::InputSummary;
 use afdx_config::Switches;
-use afdx_engine::Machine;
 use afdx_frame::BySide;
-use afdx_inputs::{Arrivals, InputCount, Reading, run_input, run_pair};
-use afdx_lists::{Heading, ListedSwitch, Peeked, RunFault, Watched};
-use afdx_recorded::{PairOptions, Placing, RecordingOptions, UnsaidPort};
+use afdx_input_lines::{Heading, ListedSwitch, Peeked, RunFault, Watched};
+use afdx_input_runs::{Arrivals, InputCount, Reading, run_input, run_pair};
+use afdx_input_sources::{Machine, PairOptions, Placing, RecordingOptions, UnsaidPort};
 use afdx_text::Sink;
 use std::alloc::Global;
 use std::io::{Read, Write};
@@ -92,9 +91,9 @@ pub trait SitedInput<P: Placing>: Arrivals<P> {
 }
 
 impl<R: Read> SitedInput<RecordingOptions> for Watched<Peeked<R>> {
-    ghost use Rattle.afdx_recorded.specs.Becoming.{options_of};
-    ghost use Rattle.afdx_recorded.specs.Claims.{ports_of_several};
-    ghost use Rattle.afdx_recorded.specs.Entering.{IsEntered};
+    ghost use Rattle.afdx_input_sources.specs.Becoming.{options_of};
+    ghost use Rattle.afdx_input_sources.specs.Claims.{ports_of_several};
+    ghost use Rattle.afdx_input_sources.specs.Entering.{IsEntered};
     ghost use Rattle.afdx_replay.specs.cascading.Input.{OneIsTold};
 
     ghost AreThere = { λ switches options.
@@ -126,8 +125,8 @@ impl<R: Read> SitedInput<RecordingOptions> for Watched<Peeked<R>> {
 }
 
 impl<R: Read> SitedInput<PairOptions> for BySide<Watched<R>> {
-    ghost use Rattle.afdx_inputs.specs.RecordingRun.{IsEnteredBy};
-    ghost use Rattle.afdx_recorded.specs.Claims.{ports_of_several};
+    ghost use Rattle.afdx_input_runs.specs.RecordingRun.{IsEnteredBy};
+    ghost use Rattle.afdx_input_sources.specs.Claims.{ports_of_several};
     ghost use Rattle.afdx_replay.specs.cascading.Input.{TwoAreTold};
 
     ghost AreThere = { λ switches options.

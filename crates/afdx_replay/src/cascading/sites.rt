@@ -5,9 +5,9 @@ ghost use Rattle.afdx_replay.specs.cascading.Sited as spec;
 ghost use Rattle.afdx_replay.specs.cascading.Sited.{cables_of, site_of};
 
 use afdx_config::{SwitchId, Switches};
-use afdx_engine::LineForm;
 use afdx_frame::LAST_PORT;
-use afdx_lists::{Heading, LineError, ListedSwitch, read_sited_line};
+use afdx_input_lines::{Heading, LineError, ListedSwitch, read_sited_line};
+use afdx_input_sources::LineForm;
 use std::alloc::{AllocError, Global};
 
 /// At the place of each port's number whether a cable is there, at this switch.
@@ -51,7 +51,7 @@ pub(crate) struct SitedLines<'a> {
 
 impl LineForm<Heading> for SitedLines<'_> {
     ghost use Rattle.afdx_cascade.specs.Runs.{Line};
-    ghost use Rattle.afdx_lists.specs.SitedLines.{SitedFrame, sited_frame};
+    ghost use Rattle.afdx_input_lines.specs.SitedLines.{SitedFrame, sited_frame};
     ghost use Rattle.afdx_replay.specs.cascading.Sited.{IsAtSite, sited_frames};
 
     ghost IsForm = { λ form. length form.switches.now ≤ 24 };

@@ -1,17 +1,17 @@
 //! Replaying a list of frames through several switches on each side, admitted or not.
 
 ghost use Rattle.std.specs.Prelude.{◌≡◌, ◌≤◌, ◌+◌, IfSome, OnOk, true, false};
-ghost use Rattle.afdx_lists.specs.Calls.{is_failed_read, is_failed_write};
-ghost use Rattle.afdx_lists.specs.Lines.{most_reads};
-ghost use Rattle.afdx_lists.specs.Watching.{calls_of, device_of, has_ended, has_failed};
+ghost use Rattle.afdx_input_lines.specs.Calls.{is_failed_read, is_failed_write};
+ghost use Rattle.afdx_input_lines.specs.Lines.{most_reads};
+ghost use Rattle.afdx_input_lines.specs.Watching.{calls_of, device_of, has_ended, has_failed};
 ghost use Rattle.afdx_replay.specs.cascading.Ran.{Answers};
 
 use crate::cascading::run::Cascading;
 use crate::cascading::sites::{SitedLines, sites_of};
-use afdx_commands::Summary;
+use afdx_command_tables::Summary;
 use afdx_config::Switches;
-use afdx_engine::run_list;
-use afdx_lists::{RunFault, Watched};
+use afdx_input_lines::{RunFault, Watched};
+use afdx_input_sources::run_list;
 use afdx_text::{AtOnce, Text};
 use std::alloc::Global;
 use std::io::{Read, Stderr, Write};

@@ -1,18 +1,18 @@
 //! The command `police`.
 
 ghost use Rattle.std.specs.Prelude.{◌≡◌, ◌≤◌, ◌+◌, ◌⊎◌, ◌↔◌, IfSome, IsSome, codes, false};
-ghost use Rattle.afdx_lists.specs.Lines.{most_reads};
+ghost use Rattle.afdx_input_lines.specs.Lines.{most_reads};
 ghost use Rattle.afdx_text.specs.Telling.{Tells};
-ghost use Rattle.afdx_commands.specs.Commands.{IsFourIfFailed, IsWholeIfDone};
+ghost use Rattle.afdx_command_tables.specs.Commands.{IsFourIfFailed, IsWholeIfDone};
 ghost use Rattle.afdx_replay.specs.policing.Command.{commanded_rule, usual_rule, EndsPolicing, IsCommanded};
-ghost use Rattle.afdx_commands.specs.declared.ending.Ended.{Ended as End};
-ghost use Rattle.afdx_lists.specs.Watching.{calls_of, device_of, has_ended, has_failed};
+ghost use Rattle.afdx_command_tables.specs.declared.ending.Ended.{Ended as End};
+ghost use Rattle.afdx_input_lines.specs.Watching.{calls_of, device_of, has_ended, has_failed};
 
 use crate::policing::run::run_police;
-use afdx_commands::end;
-use afdx_commands::status::WRONG_WORDS;
+use afdx_command_tables::end;
+use afdx_command_tables::status::WRONG_WORDS;
 use afdx_frame::{LAST_PORT, LEAST_FRAME, Policing, VlId};
-use afdx_lists::Watched;
+use afdx_input_lines::Watched;
 use afdx_police::LinkRule;
 use afdx_text::tell;
 use std::alloc::Global;

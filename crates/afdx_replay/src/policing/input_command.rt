@@ -2,8 +2,8 @@
 
 ghost use Rattle.std.specs.Prelude.{◌≡◌, ◌||◌, ◌⊎◌, ◌↔◌, Result, IsSome, IfSome, codes, None, false, true};
 ghost use Rattle.afdx_text.specs.Telling.{Tells};
-ghost use Rattle.afdx_lists.specs.declared.fault.RunFault.{RunFault};
-ghost use Rattle.afdx_recorded.specs.Claims.{one_port};
+ghost use Rattle.afdx_input_lines.specs.declared.fault.RunFault.{RunFault};
+ghost use Rattle.afdx_input_sources.specs.Claims.{one_port};
 ghost use Rattle.afdx_replay.specs.Inputs.{EndsInputAs};
 ghost use Rattle.afdx_replay.specs.policing.Command.{commanded_rule, IsCommanded};
 ghost use Rattle.afdx_replay.specs.policing.Input.{Polices};
@@ -12,9 +12,9 @@ ghost use Rattle.afdx_replay.specs.declared.input_ending.InputSummary.{InputSumm
 use crate::input_ending::{InputEnded, end_input};
 use crate::policing::command::CommandedRule;
 use crate::policing::over::police_over;
-use afdx_commands::status::WRONG_WORDS;
-use afdx_inputs::Arrivals;
-use afdx_lists::Watched;
+use afdx_command_tables::status::WRONG_WORDS;
+use afdx_input_lines::Watched;
+use afdx_input_runs::Arrivals;
 use afdx_text::{Sink, tell};
 use std::alloc::Global;
 use std::io::Write;

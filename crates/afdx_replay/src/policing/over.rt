@@ -2,17 +2,17 @@
 
 ghost use Rattle.std.specs.Prelude.{◌≡◌, IfSome, OnOk, false};
 ghost use Rattle.afdx_police.specs.RuleOf.{rule_of};
-ghost use Rattle.afdx_lists.specs.Calls.{is_failed_read, is_failed_write};
-ghost use Rattle.afdx_recorded.specs.Claims.{one_port};
+ghost use Rattle.afdx_input_lines.specs.Calls.{is_failed_read, is_failed_write};
+ghost use Rattle.afdx_input_sources.specs.Claims.{one_port};
 ghost use Rattle.afdx_replay.specs.policing.Input.{Polices};
 
 use crate::input_ending::InputSummary;
 use crate::policing::run::Police;
-use afdx_commands::{NO_COUNTS, Summary};
-use afdx_inputs::Arrivals;
-use afdx_lists::RunFault;
+use afdx_command_tables::{NO_COUNTS, Summary};
+use afdx_input_lines::RunFault;
+use afdx_input_runs::Arrivals;
+use afdx_input_sources::UnsaidPort;
 use afdx_police::LinkRule;
-use afdx_recorded::UnsaidPort;
 use afdx_text::Sink;
 use std::alloc::Global;
 

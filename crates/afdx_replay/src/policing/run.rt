@@ -2,22 +2,22 @@
 
 ghost use Rattle.std.specs.Prelude.{◌≡◌, ◌<◌, ◌≤◌, ◌+◌, ◌-◌, ◌^◌, if◌then◌else◌, ◌∷◌, [], ℕ, List, Option, IfSome, OnOk, true, false};
 ghost use Rattle.afdx_frame.specs.Seals.{IsSealedAs};
-ghost use Rattle.afdx_lists.specs.Lines.{most_reads};
+ghost use Rattle.afdx_input_lines.specs.Lines.{most_reads};
 ghost use Rattle.afdx_police.specs.Arrival.{Arrival};
 ghost use Rattle.afdx_police.specs.Rule.{Rule};
 ghost use Rattle.afdx_police.specs.RuleOf.{rule_of};
 ghost use Rattle.afdx_police.specs.Verdicts.{verdict_in};
-ghost use Rattle.afdx_lists.specs.Calls.{is_failed_read, is_failed_write};
-ghost use Rattle.afdx_lists.specs.FrameLines.{listed_frame};
-ghost use Rattle.afdx_lists.specs.Watching.{calls_of, device_of, has_ended, has_failed};
-ghost use Rattle.afdx_engine.specs.Listed.{arrival_at};
+ghost use Rattle.afdx_input_lines.specs.Calls.{is_failed_read, is_failed_write};
+ghost use Rattle.afdx_input_lines.specs.FrameLines.{listed_frame};
+ghost use Rattle.afdx_input_lines.specs.Watching.{calls_of, device_of, has_ended, has_failed};
+ghost use Rattle.afdx_input_sources.specs.Listed.{arrival_at};
 ghost use Rattle.afdx_replay.specs.policing.Accounts.{AreUntil, HaveSeen};
 ghost use Rattle.afdx_replay.specs.policing.Policed.{Answers};
 
-use afdx_commands::{NO_COUNTS, Summary};
-use afdx_engine::{FrameLines, Machine, run_list};
+use afdx_command_tables::{NO_COUNTS, Summary};
 use afdx_frame::BySide;
-use afdx_lists::{Heading, RunFault, Watched};
+use afdx_input_lines::{Heading, RunFault, Watched};
+use afdx_input_sources::{FrameLines, Machine, run_list};
 use afdx_police::{LinkAccount, LinkRule, Reason};
 use afdx_text::{AtOnce, OutLine, Sink, Site, Text};
 use std::alloc::Global;

@@ -1,16 +1,16 @@
 //! A run of an admitted network: a replay that keeps the promises.
 
 ghost use Rattle.std.specs.Prelude.{◌≡◌, ◌+◌, ◌≤◌, OnOk, IfSome, true, false};
-ghost use Rattle.afdx_lists.specs.Lines.{most_reads};
-ghost use Rattle.afdx_lists.specs.Calls.{is_failed_read, is_failed_write};
-ghost use Rattle.afdx_lists.specs.Watching.{calls_of, device_of, has_ended, has_failed};
+ghost use Rattle.afdx_input_lines.specs.Lines.{most_reads};
+ghost use Rattle.afdx_input_lines.specs.Calls.{is_failed_read, is_failed_write};
+ghost use Rattle.afdx_input_lines.specs.Watching.{calls_of, device_of, has_ended, has_failed};
 ghost use Rattle.afdx_replay.specs.replaying.Replayed.{Answers};
 ghost use Rattle.afdx_replay.specs.replaying.PromisedRun.{PromisedAnswers};
 
 use crate::replaying::run::run_unadmitted;
 use afdx_admit::Admitted;
-use afdx_commands::Summary;
-use afdx_lists::{RunFault, Watched};
+use afdx_command_tables::Summary;
+use afdx_input_lines::{RunFault, Watched};
 use std::alloc::Global;
 use std::io::{Read, Write};
 

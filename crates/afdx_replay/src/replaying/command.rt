@@ -1,18 +1,18 @@
 //! The command `replay`.
 
 ghost use Rattle.std.specs.Prelude.{◌≡◌, ◌≤◌, ◌+◌, ◌⊎◌, IfSome, OnOk, true, false};
-ghost use Rattle.afdx_lists.specs.Lines.{most_reads};
-ghost use Rattle.afdx_lists.specs.Watching.{calls_of, device_of, has_ended, has_failed};
-ghost use Rattle.afdx_commands.specs.Commands.{IsFourIfFailed, IsInputStatus, IsWholeIfDone};
-ghost use Rattle.afdx_commands.specs.Taking.{described_of, IsNotTaken};
-ghost use Rattle.afdx_lists.specs.Calls.{is_failed_read, is_failed_write};
+ghost use Rattle.afdx_input_lines.specs.Lines.{most_reads};
+ghost use Rattle.afdx_input_lines.specs.Watching.{calls_of, device_of, has_ended, has_failed};
+ghost use Rattle.afdx_command_tables.specs.Commands.{IsFourIfFailed, IsInputStatus, IsWholeIfDone};
+ghost use Rattle.afdx_command_tables.specs.Taking.{described_of, IsNotTaken};
+ghost use Rattle.afdx_input_lines.specs.Calls.{is_failed_read, is_failed_write};
 ghost use Rattle.afdx_replay.specs.replaying.Command.{EndsReplaying, FileAnswers};
-ghost use Rattle.afdx_commands.specs.declared.ending.Ended.{Ended as End};
+ghost use Rattle.afdx_command_tables.specs.declared.ending.Ended.{Ended as End};
 
 use crate::cascading::unadmitted::run_cascade_unadmitted;
 use crate::replaying::run::run_unadmitted;
-use afdx_commands::{Summary, Taken, end, take_file};
-use afdx_lists::{RunFault, Watched};
+use afdx_command_tables::{Summary, Taken, end, take_file};
+use afdx_input_lines::{RunFault, Watched};
 use std::alloc::Global;
 use std::io::{Read, Write};
 

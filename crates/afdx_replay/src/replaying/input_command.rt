@@ -2,8 +2,8 @@
 
 ghost use Rattle.std.specs.Prelude.{◌≡◌, ◌||◌, ◌↔◌, IsSome, OnOk, false, true};
 ghost use Rattle.afdx_replay.specs.Placed.{IsPlacedStatus};
-ghost use Rattle.afdx_commands.specs.Taking.{described_of};
-ghost use Rattle.afdx_lists.specs.Calls.{is_failed_read, is_failed_write};
+ghost use Rattle.afdx_command_tables.specs.Taking.{described_of};
+ghost use Rattle.afdx_input_lines.specs.Calls.{is_failed_read, is_failed_write};
 ghost use Rattle.afdx_replay.specs.replaying.Command.{OfOneOr};
 ghost use Rattle.afdx_replay.specs.replaying.Input.{EndsInput, ReplaysBy};
 
@@ -11,9 +11,9 @@ use crate::cascading::over::{SitedInput, replay_sited};
 use crate::input_ending::{InputEnded, InputSummary, end_input};
 use crate::placed::read_placed;
 use crate::replaying::over::replay_over;
-use afdx_commands::{Taken, take_described};
-use afdx_lists::{RunFault, Watched};
-use afdx_recorded::Placing;
+use afdx_command_tables::{Taken, take_described};
+use afdx_input_lines::{RunFault, Watched};
+use afdx_input_sources::Placing;
 use afdx_text::Sink;
 use std::alloc::Global;
 use std::io::Write;

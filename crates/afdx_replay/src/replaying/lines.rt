@@ -3,7 +3,7 @@
 ghost use Rattle.std.specs.Prelude.{◌≡◌, List, ◌++◌, ◌≤◌, ◌∷◌, OnOk, OnErr, IfOk, IfErr, length, false};
 ghost use Rattle.afdx_frame.specs.Ports.{last_port};
 ghost use Rattle.std.specs.Io.KnownBytes.{Appends};
-ghost use Rattle.afdx_lists.specs.Calls.{AppendsFront, is_failed_write};
+ghost use Rattle.afdx_input_lines.specs.Calls.{AppendsFront, is_failed_write};
 ghost use Rattle.afdx_text.specs.Sinks.{IsOfOutput};
 ghost use Rattle.afdx_config.specs.Rows.{Rows};
 ghost use Rattle.afdx_end_systems.specs.Handovers.{HandedOver, handed_over};
@@ -17,7 +17,7 @@ ghost use Rattle.afdx_text.specs.OutLines.{place_text, site_text};
 
 use afdx_end_systems::{Handover, Systems};
 use afdx_frame::LAST_PORT;
-use afdx_lists::RunFault;
+use afdx_input_lines::RunFault;
 use afdx_network::Departed;
 use afdx_police::Reason;
 use afdx_receive::Reception;

@@ -1,17 +1,17 @@
 //! A replay over whatever gives it its arrivals.
 
 ghost use Rattle.std.specs.Prelude.{◌≡◌, IfSome, OnOk, false};
-ghost use Rattle.afdx_lists.specs.Calls.{is_failed_read, is_failed_write};
-ghost use Rattle.afdx_recorded.specs.Claims.{ports_of_one};
+ghost use Rattle.afdx_input_lines.specs.Calls.{is_failed_read, is_failed_write};
+ghost use Rattle.afdx_input_sources.specs.Claims.{ports_of_one};
 ghost use Rattle.afdx_replay.specs.replaying.Input.{Hears, Replays};
 
 use crate::input_ending::InputSummary;
 use crate::replaying::explained::Explaining;
 use crate::replaying::run::Replay;
 use afdx_config::Tables;
-use afdx_inputs::Arrivals;
-use afdx_lists::{RunFault, Watched};
-use afdx_recorded::UnsaidPort;
+use afdx_input_lines::{RunFault, Watched};
+use afdx_input_runs::Arrivals;
+use afdx_input_sources::UnsaidPort;
 use afdx_text::Sink;
 use std::alloc::Global;
 use std::io::Write;

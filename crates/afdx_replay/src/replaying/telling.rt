@@ -4,7 +4,7 @@ ghost use Rattle.std.specs.Prelude.{◌≡◌, ℕ, ◌+◌, ◌++◌, ◌≤◌
 ghost use Rattle.std.specs.Io.KnownBytes.{Appends};
 ghost use Rattle.afdx_frame.specs.Ports.{last_port};
 ghost use Rattle.afdx_config.specs.Rows.{Rows};
-ghost use Rattle.afdx_lists.specs.Calls.{AppendsFront, is_failed_write};
+ghost use Rattle.afdx_input_lines.specs.Calls.{AppendsFront, is_failed_write};
 ghost use Rattle.afdx_end_systems.specs.StandsFor as hearing;
 ghost use Rattle.afdx_network.specs.Events.{Event, Departure, Left};
 ghost use Rattle.afdx_network.specs.Network as network;
@@ -16,9 +16,9 @@ ghost use Rattle.afdx_replay.specs.replaying.Text.{frames_left, lines_at, loss_l
 ghost use Rattle.afdx_replay.specs.replaying.Text.{with_admission};
 
 use crate::replaying::lines::{Heard, hear, put_admission, put_departure, reason_of};
-use afdx_commands::Summary;
+use afdx_command_tables::Summary;
 use afdx_end_systems::{Handover, Systems};
-use afdx_lists::RunFault;
+use afdx_input_lines::RunFault;
 use afdx_network::Departed;
 use afdx_police::Reason;
 use afdx_switch::Verdict;

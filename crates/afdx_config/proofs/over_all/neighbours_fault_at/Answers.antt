@@ -17,7 +17,8 @@ loop-i-init c =
     let t : Rows = c.tables-tables.result.now in
     let same : t ≡ s.rows = c.tables-tables.ensures.tables in
     subst (λ from. IsSoFar (neighbour_lines ss k) from (length t.systems)
-    (first_false (each_from (neighbour_lines ss k) t.own (length t.systems - t.own)))) (sym c.own_count-own.ensures.count)
+    (first_false (each_from (neighbour_lines ss k) t.own (length t.systems - t.own))))
+    (sym c.own_count-own.ensures.count)
     (so_far-start (neighbour_lines ss k) t.own (length t.systems - t.own) (length t.systems)
     (below t.own (length t.systems)
     (subst (λ (r : Rows). r.own ≤ length r.systems) (sym same) c.tables-tables.ensures.lawful.own)))
@@ -39,10 +40,13 @@ returns-in-Some c =
     let said : first_false (neighbour_lines ss k c.loop-i.i) ≡ c.neighbour_fault.result =
     ap first_false (neighbour-at ss k s c.at-switch.ensures c.loop-i.i e row)
     ∙ ap (λ (r : Rows). first_false (lines_of_neighbour ss s.name k (c.loop-i.i - r.own + 1) e)) (sym same)
-    ∙ ap (λ own. first_false (lines_of_neighbour ss s.name k (c.loop-i.i - own + 1) e)) (sym c.own_count-own.ensures.count)
-    ∙ ap (λ name. first_false (lines_of_neighbour ss name k (c.loop-i.i - c.own_count-own.result + 1) e)) (sym c.name.ensures.name)
+    ∙ ap (λ own. first_false (lines_of_neighbour ss s.name k (c.loop-i.i - own + 1) e))
+    (sym c.own_count-own.ensures.count)
+    ∙ ap (λ name. first_false (lines_of_neighbour ss name k (c.loop-i.i - c.own_count-own.result + 1) e))
+    (sym c.name.ensures.name)
     ∙ sym c.neighbour_fault.ensures in
-    sym (whole ∙ so_far-found (neighbour_lines ss k) c.loop-i.i (length t.systems) all c.in-Some.fault c.loop-i.invariant
+    sym (whole ∙ so_far-found (neighbour_lines ss k) c.loop-i.i
+    (length t.systems) all c.in-Some.fault c.loop-i.invariant
     (omega arith) (said ∙ c.in-Some.is))
 
 pub loop-i-preserved : goal.loop-i-preserved
@@ -59,8 +63,10 @@ loop-i-preserved c =
     let said : first_false (neighbour_lines ss k c.loop-i.i) ≡ c.neighbour_fault.result =
     ap first_false (neighbour-at ss k s c.at-switch.ensures c.loop-i.i e row)
     ∙ ap (λ (r : Rows). first_false (lines_of_neighbour ss s.name k (c.loop-i.i - r.own + 1) e)) (sym same)
-    ∙ ap (λ own. first_false (lines_of_neighbour ss s.name k (c.loop-i.i - own + 1) e)) (sym c.own_count-own.ensures.count)
-    ∙ ap (λ name. first_false (lines_of_neighbour ss name k (c.loop-i.i - c.own_count-own.result + 1) e)) (sym c.name.ensures.name)
+    ∙ ap (λ own. first_false (lines_of_neighbour ss s.name k (c.loop-i.i - own + 1) e))
+    (sym c.own_count-own.ensures.count)
+    ∙ ap (λ name. first_false (lines_of_neighbour ss name k (c.loop-i.i - c.own_count-own.result + 1) e))
+    (sym c.name.ensures.name)
     ∙ sym c.neighbour_fault.ensures in
     so_far-next (neighbour_lines ss k) c.loop-i.i (length t.systems) all c.loop-i.invariant (said ∙ c.in_default.is)
 

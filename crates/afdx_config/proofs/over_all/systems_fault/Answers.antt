@@ -12,7 +12,8 @@ loop-k-init c =
 pub returns-in-Some : goal.returns-in-Some
 returns-in-Some c =
     let ss = c.args.switches.now in
-    sym (so_far-found (systems_lines ss) c.loop-k.k (length ss) (first_false (each_from (systems_lines ss) 0 (length ss)))
+    sym (so_far-found (systems_lines ss) c.loop-k.k (length ss)
+    (first_false (each_from (systems_lines ss) 0 (length ss)))
     c.in-Some.fault c.loop-k.invariant (omega arith) (sym c.in-Some.ensures))
 
 pub loop-k-preserved : goal.loop-k-preserved

@@ -17,17 +17,22 @@ returns-then-is_one_passed-clause-defined c z time j b closed sure s =
     let any = ap (λ (l : List Held). list_any (λ h. nat_le c.args.closed h.passed) l) (sym c.as_slice.ensures.value)
     ∙ sym c.is_one_passed.ensures ∙ c.if-is_one_passed.true in
     let nothing = ap (λ (l : List Finding). told (time + reach z.by) l
-    (marked_all c.args.arrivals.now c.args.judging.now.marks.items) j) c.new.ensures.items
-    ∙ told-none (time + reach z.by) (marked_all c.args.arrivals.now c.args.judging.now.marks.items) j (sym s.marks) in
-    let whole = sym (close-kept z time c.args.closed (map gone_of c.args.frames.now) c.args.judging.now.held.items j
+    (marked_all c.args.recorded.now.arrivals.now c.args.judging.now.marks.items) j) c.new.ensures.items
+    ∙ told-none (time + reach z.by) (marked_all c.args.recorded.now.arrivals.now c.args.judging.now.marks.items) j
+    (sym s.marks) in
+    let whole = sym (close-kept z time c.args.closed
+    (map gone_of c.args.recorded.now.frames.now) c.args.judging.now.held.items j
     closed s.states sure
-    c.close.new.held.items any (c.close.ensures.left (map gone_of c.args.frames.now) time closed))
-    ∙ ap (λ (k : Judged). with_states (map (state_of (map gone_of c.args.frames.now)) c.close.new.held.items) k)
+    c.close.new.held.items any (c.close.ensures.left (map gone_of c.args.recorded.now.frames.now) time closed))
+    ∙ ap (λ (k : Judged).
+    with_states (map (state_of (map gone_of c.args.recorded.now.frames.now)) c.close.new.held.items) k)
     (sym nothing) in
-    stands-after c.args.bounds.now.rates c.args.frames.now c.args.arrivals.now j (closed_to z time j)
+    stands-after c.args.bounds.now.rates c.args.recorded.now.frames.now c.args.recorded.now.arrivals.now j
+    (closed_to z time j)
     c.args.judging.now _
     c.new.result.items (time + reach z.by) s whole refl refl
-    (c.close.ensures.within c.args.bounds.now.rates (length c.args.frames.now) (length c.args.judging.now.marks.items)
+    (c.close.ensures.within c.args.bounds.now.rates (length c.args.recorded.now.frames.now)
+    (length c.args.judging.now.marks.items)
     s.within)
     refl
 
@@ -45,7 +50,7 @@ returns-clause-marks c = c.skip.ensures.marks
 
 pub returns-then-is_one_passed-clause-within : goal.returns-then-is_one_passed-clause-within
 returns-then-is_one_passed-clause-within c count all =
-    c.close.ensures.within c.args.bounds.now.rates (length c.args.frames.now) count all
+    c.close.ensures.within c.args.bounds.now.rates (length c.args.recorded.now.frames.now) count all
 
 pub returns-clause-within : goal.returns-clause-within
 returns-clause-within c count all = c.skip.ensures.within count all

@@ -13,36 +13,40 @@ use Rattle.afdx_conform.proofs.judging.skip.Goals as goal
 
 pub returns-clause-defined : goal.returns-clause-defined
 returns-clause-defined c z time j b closed none sure s =
-    let inside = within-frames c.args.bounds.now.rates c.args.frames.now (length c.args.judging.now.marks.items)
+    let inside = within-frames c.args.bounds.now.rates c.args.recorded.now.frames.now
+    (length c.args.judging.now.marks.items)
     c.args.judging.now.held.items s.within in
     let lead_is = c.in_ok-lead.ensures ∙ ap (λ (l : List Held). map (λ h. past c.args.closed h)
     (filter (λ h. nat_eq h.passed c.min-front.result) l)) c.as_slice.ensures.value in
-    let whole = skip-whole z time c.args.closed c.front_of-foremost.result c.min-front.result c.args.frames.now
-    c.args.arrivals.now
+    let whole = skip-whole z time c.args.closed c.front_of-foremost.result c.min-front.result
+    c.args.recorded.now.frames.now
+    c.args.recorded.now.arrivals.now
     c.args.judging.now.held.items c.in_ok-lead.lead.items c.unexplained_all.new.found.items
     c.unexplained_all.new.marks.items j closed
     none sure s.states inside
-    (front-start c.args.frames.now c.args.judging.now.held.items c.as_slice-held.result.now c.front_of-foremost.result
-    (length c.args.frames.now) c.as_slice-held.ensures.value inside c.front_of-foremost.ensures.greatest
+    (front-start c.args.recorded.now.frames.now c.args.judging.now.held.items c.as_slice-held.result.now
+    c.front_of-foremost.result
+    (length c.args.recorded.now.frames.now) c.as_slice-held.ensures.value inside c.front_of-foremost.ensures.greatest
     c.front_of-foremost.ensures.among refl)
-    (subst (λ (l : List Held). ((l ≡ []) × (c.front_of-foremost.result ≡ length c.args.frames.now))
+    (subst (λ (l : List Held). ((l ≡ []) × (c.front_of-foremost.result ≡ length c.args.recorded.now.frames.now))
     ⊎ ((h : Held) × Contains l h × (h.passed ≡ c.front_of-foremost.result))) c.as_slice-held.ensures.value
     c.front_of-foremost.ensures.among)
     c.min-front.ensures lead_is
     (c.unexplained_all.ensures.found z (time + reach z.by) j b.limits (sym s.marks)) in
-    stands-after c.args.bounds.now.rates c.args.frames.now c.args.arrivals.now j (closed_to z time j)
+    stands-after c.args.bounds.now.rates c.args.recorded.now.frames.now c.args.recorded.now.arrivals.now j
+    (closed_to z time j)
     c.args.judging.now _
     c.unexplained_all.new.found.items (time + reach z.by) s whole refl refl
-    (same-count c.args.bounds.now.rates (length c.args.frames.now) (length c.args.judging.now.marks.items)
+    (same-count c.args.bounds.now.rates (length c.args.recorded.now.frames.now) (length c.args.judging.now.marks.items)
     (length c.unexplained_all.new.marks.items) c.in_ok-lead.lead.items (sym c.unexplained_all.ensures.length)
-    (past-within c.args.bounds.now.rates (length c.args.frames.now) (length c.args.judging.now.marks.items)
+    (past-within c.args.bounds.now.rates (length c.args.recorded.now.frames.now) (length c.args.judging.now.marks.items)
     c.min-front.result
     c.args.closed c.args.judging.now.held.items c.in_ok-lead.lead.items c.requires.closed lead_is s.within))
     c.unexplained_all.ensures.length
 
 pub returns-clause-within : goal.returns-clause-within
 returns-clause-within c count all =
-    past-within c.args.bounds.now.rates (length c.args.frames.now) count c.min-front.result
+    past-within c.args.bounds.now.rates (length c.args.recorded.now.frames.now) count c.min-front.result
     c.args.closed c.args.judging.now.held.items c.in_ok-lead.lead.items c.requires.closed
     (c.in_ok-lead.ensures ∙ ap (λ (l : List Held). map (λ h. past c.args.closed h)
     (filter (λ h. nat_eq h.passed c.min-front.result) l)) c.as_slice.ensures.value) all
@@ -52,6 +56,6 @@ returns-clause-marks c = c.unexplained_all.ensures.length
 
 pub unexplained_all-requires-clause-each : goal.unexplained_all-requires-clause-each
 unexplained_all-requires-clause-each c =
-    each-slice c.args.known.now c.args.arrivals.now c.in_ok-each.each.items c.as_slice-2.result.now
+    each-slice c.args.known.now c.args.recorded.now.arrivals.now c.in_ok-each.each.items c.as_slice-2.result.now
     c.as_slice-2.ensures.value
     c.in_ok-each.ensures

@@ -13,12 +13,13 @@ abbrev no-held : Held
 no-held = record { passed = 0; levels = record { lo = 0; hi = 0 }; waiting = 0 }
 
 pub returns-in-len1-clause-defined : goal.returns-in-len1-clause-defined
-returns-in-len1-clause-defined c z last b j ns opens =
+returns-in-len1-clause-defined c z last b j t =
     some-on c.led_one.result (λ h e. sym (led-alone (map gone_of c.args.frames.now)
-    (λ s. states_at z (arrival_of c.args.arrived.now) (levels_then z s.levels last (arrival_of c.args.arrived.now)) s)
+    (λ s. states_at z (arrival_of c.args.coming.now.arrived.now)
+    (levels_then z s.levels last (arrival_of c.args.coming.now.arrived.now)) s)
     c.args.held.now (get_or c.args.held.now 0 no-held) (alone c.args.held.now no-held c.in-len1.len_at_least
     c.in-len1.len_below) ∙ e))
-    (c.led_one.ensures.defined z last b j ns opens)
+    (c.led_one.ensures.defined z last b j t)
 
 pub returns-in-len1-clause-within : goal.returns-in-len1-clause-within
 returns-in-len1-clause-within c link by count r all =

@@ -1,4 +1,4 @@
-use Rattle.std.proofs.Common.{length, List, map, drop, refl, ap, ◌∙◌}
+use Rattle.std.proofs.Common.{length, List, map, drop, ap, ◌∙◌}
 use Rattle.std.proofs.lemmas.List.Elements.{All-same}
 use Rattle.afdx_conform.specs.Explanations.{link, levels_then}
 use Rattle.afdx_conform.specs.HeldStates.{IsNext, IsSmall, IsCaseWithin, state_of}
@@ -18,19 +18,20 @@ lead_all-requires-clause-small c =
     c.in_ok-cases.ensures.held c.requires)
 
 pub returns-clause-defined : goal.returns-clause-defined
-returns-clause-defined c z last b j ns opens =
+returns-clause-defined c z last b j t =
     if-ok-on c.lead_all.result (λ out e. e
-    ∙ ap (λ (l : List State). led_by (λ s. states_at z (arrival_of c.args.arrived.now)
-    (levels_then z s.levels last (arrival_of c.args.arrived.now)) s) l)
+    ∙ ap (λ (l : List State). led_by (λ s. states_at z (arrival_of c.args.coming.now.arrived.now)
+    (levels_then z s.levels last (arrival_of c.args.coming.now.arrived.now)) s) l)
     (ap (λ (l : List Case). map (λ d. state_of (map gone_of c.args.frames.now) d.held) l) c.as_slice.ensures.value
     ∙ held-states (map gone_of c.args.frames.now) c.in_ok-cases.cases.items
     ∙ ap (λ (l : List Held). map (state_of (map gone_of c.args.frames.now)) l) c.in_ok-cases.ensures.held))
-    (c.lead_all.ensures.defined z (arrival_of c.args.arrived.now) (map gone_of c.args.frames.now) last b.rates
-    j.charge ns
-    (All-same (λ (d : Case). IsNext z (arrival_of c.args.arrived.now)
+    (c.lead_all.ensures.defined z (arrival_of c.args.coming.now.arrived.now)
+    (map gone_of c.args.frames.now) last b.rates
+    j.charge t.ns
+    (All-same (λ (d : Case). IsNext z (arrival_of c.args.coming.now.arrived.now)
     (drop d.held.passed (map gone_of c.args.frames.now)) d.next) _ _
     c.as_slice.ensures.value
-    (c.in_ok-cases.ensures.next z (arrival_of c.args.arrived.now) b.limits refl refl opens)))
+    (c.in_ok-cases.ensures.next z b.limits t.opens)))
 
 pub returns-clause-within : goal.returns-clause-within
 returns-clause-within c link by count r all =

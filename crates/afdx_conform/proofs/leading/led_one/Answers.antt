@@ -12,15 +12,16 @@ use Rattle.afdx_conform.proofs.AloneLemmas.{some-on}
 use Rattle.afdx_conform.proofs.leading.led_one.Goals as goal
 
 pub returns-clause-defined : goal.returns-clause-defined
-returns-clause-defined c z last b j ns opens =
-    let next = c.next-next.ensures.defined z (arrival_of c.args.arrived.now) b.limits refl refl opens in
-    let lead = c.lead-accepted.ensures.defined z (arrival_of c.args.arrived.now) (map gone_of c.args.frames.now)
+returns-clause-defined c z last b j t =
+    let next = c.next-next.ensures.defined z (arrival_of c.args.coming.now.arrived.now) b.limits refl refl t.opens in
+    let lead = c.lead-accepted.ensures.defined z (arrival_of c.args.coming.now.arrived.now)
+    (map gone_of c.args.frames.now)
     b.rates j.charge next in
     let levels = c.later-levels.ensures.moved (link z) z.by b.rates
-    ∙ ap (λ (n : ℕ). later (link z) z.by n c.args.state.levels) ns in
+    ∙ ap (λ (n : ℕ). later (link z) z.by n c.args.state.levels) t.ns in
     some-on c.only.result (λ h e.
     sym
-    (ap (λ (v : Levels). states_at z (arrival_of c.args.arrived.now) v
+    (ap (λ (v : Levels). states_at z (arrival_of c.args.coming.now.arrived.now) v
     (state_of (map gone_of c.args.frames.now) c.args.state)) levels)
     ∙ lead ∙ ap (λ (l : List Held). map (state_of (map gone_of c.args.frames.now)) l) e) c.only.ensures
 

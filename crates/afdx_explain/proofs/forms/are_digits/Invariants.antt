@@ -1,5 +1,5 @@
 use Rattle.std.proofs.Common.{◌≡◌, length}
-use Rattle.afdx_lists.specs.Splitting.{all_digits}
+use Rattle.afdx_input_lines.specs.Splitting.{all_digits}
 use Rattle.afdx_explain.proofs.forms.are_digits.Given as goal
 
 abbrev pub invariant-loop-word : goal.invariant-loop-word

@@ -28,7 +28,8 @@ returns c =
     c.in_ok-a.ensures.message)
     c.in_ok-a.ensures.message
     (c.in_ok-extend_from_slice.ensures.items
-    ∙ ap₂ (λ (x y : List ℕ). x ++ y) (c.in_ok-reserve_exact.ensures.items ∙ c.clear.ensures.items) c.as_slice-2.ensures.value)
+    ∙ ap₂ (λ (x y : List ℕ). x ++ y)
+    (c.in_ok-reserve_exact.ensures.items ∙ c.clear.ensures.items) c.as_slice-2.ensures.value)
     check (c.difference.ensures
     ∙ ap (λ (n : ℕ). shift (392 + 8 * (n - 60)) 0x60)
     (omega (arith, c.len.ensures, c.in_ok-a.a.ok))) refl

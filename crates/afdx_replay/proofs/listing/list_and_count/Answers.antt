@@ -1,5 +1,5 @@
 use Rattle.std.proofs.Common.{refl, inl, inr}
-use Rattle.afdx_inputs.proofs.RecordingRunLemmas.{unasked}
+use Rattle.afdx_input_runs.proofs.RecordingRunLemmas.{unasked}
 use Rattle.afdx_replay.proofs.listing.list_and_count.Goals as goal
 
 pub returns-in-Err-clause-lists : goal.returns-in-Err-clause-lists

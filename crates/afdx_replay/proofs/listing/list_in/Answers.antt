@@ -1,8 +1,8 @@
 use Rattle.std.proofs.Common.{rules}
-use Rattle.afdx_recorded.specs.Becoming.{options_of}
-use Rattle.afdx_recorded.specs.Claims.{ports_in, ports_of}
+use Rattle.afdx_input_sources.specs.Becoming.{options_of}
+use Rattle.afdx_input_sources.specs.Claims.{ports_in, ports_of}
 use Rattle.afdx_replay.proofs.ListingLemmas.{listing-unread, listing-agrees}
-use Rattle.afdx_inputs.proofs.RecordingRunLemmas.{unasked}
+use Rattle.afdx_input_runs.proofs.RecordingRunLemmas.{unasked}
 use Rattle.afdx_replay.proofs.listing.list_in.Goals as goal
 
 -- there was no memory

@@ -3,7 +3,7 @@ use Rattle.afdx_frame.proofs.ListLemmas.{slice_get-within, slice_get-one}
 use Rattle.afdx_config.specs.Admission.{links_from}
 use Rattle.afdx_config.specs.Lawful.{IsLawfulSwitch}
 use Rattle.afdx_config.specs.Rows.{SystemRow, Rows, system_row}
-use Rattle.afdx_bounds.proofs.TableLemmas.{system-time}
+use Rattle.afdx_law_bounds.proofs.TableLemmas.{system-time}
 use Rattle.afdx_port.specs.Held.{IsByteTime}
 use Rattle.afdx_port.specs.History as port
 use Rattle.afdx_send.specs.declared.sender_state.SenderState.{SenderState}

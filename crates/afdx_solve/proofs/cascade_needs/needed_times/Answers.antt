@@ -1,7 +1,8 @@
-use Rattle.std.proofs.Common.{◌≡◌, ap, ◌∙◌, length, min, max, if◌then◌else◌}
+use Rattle.std.proofs.Common.{◌≡◌, ap, ◌∙◌, ◌+◌, length, min, max, if◌then◌else◌}
 use Rattle.std.specs.Option.{unwrap_or}
 use Rattle.afdx_config.specs.Rows.{Rows, link_row}
 use Rattle.afdx_admit.specs.Cascade.{goes_to_system}
+use Rattle.afdx_solve.specs.Solved.{apart_us}
 use Rattle.afdx_solve.specs.SolvedCascade.{skew_needed}
 use Rattle.afdx_solve.proofs.AtLemmas.{tables-one}
 use Rattle.afdx_solve.proofs.DelayLemmas.{all_within}
@@ -20,8 +21,9 @@ returns-clause-skew c = λ t at.
     let u : Rows = c.tables-tables.result.now in
     let same : u ≡ t = tables-one c.args.switches.now c.args.switch.0 u t c.tables-tables.ensures.tables at in
     c.skew_needed.ensures
-    ∙ ap (λ (r : Rows). min 100000 (max l.latency_us (if goes_to_system r l then unwrap_or c.latency_of-way.result 0
-    else 0)))
+    ∙ ap (λ (r : Rows). min 100000 (max l.latency_us (if goes_to_system r l
+    then unwrap_or c.latency_of-way.result 0 + apart_us c.args.options else 0)))
     same
-    ∙ ap (λ way. min 100000 (max l.latency_us (if goes_to_system t l then unwrap_or way 0 else 0)))
+    ∙ ap (λ way. min 100000 (max l.latency_us (if goes_to_system t l
+    then unwrap_or way 0 + apart_us c.args.options else 0)))
     c.latency_of-way.ensures.sum

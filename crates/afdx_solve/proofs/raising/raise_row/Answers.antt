@@ -18,7 +18,7 @@ set_times-requires-clause-lawful c = λ t l at row.
     let m : LinkRow = link_row c.link-link.result.now in
     let at_u = c.tables.ensures.tables in
     let needed = c.needed_times-needed.result in
-    let n = needed-are ss u k m needed c.args.delays.now c.link-link.ensures.lawful_row
+    let n = needed-are c.args.options ss u k m needed c.args.delays.now c.link-link.ensures.lawful_row
     (c.needed_times-needed.ensures.jitter u at_u) c.needed_times-needed.ensures.latency
     (c.needed_times-needed.ensures.skew u at_u) (c.requires.delays u at_u) in
     let may = raised-lawful c.args.options ss u k m needed
@@ -38,7 +38,7 @@ returns-then-raised-clause-raises c =
     let m : LinkRow = link_row c.link-link.result.now in
     let at_u = c.tables.ensures.tables in
     let needed = c.needed_times-needed.result in
-    let n = needed-are ss u k m needed c.args.delays.now c.link-link.ensures.lawful_row
+    let n = needed-are c.args.options ss u k m needed c.args.delays.now c.link-link.ensures.lawful_row
     (c.needed_times-needed.ensures.jitter u at_u) c.needed_times-needed.ensures.latency
     (c.needed_times-needed.ensures.skew u at_u) (c.requires.delays u at_u) in
     let is_more : IsMoreIn m (raised_times c.args.options needed m) =
@@ -66,8 +66,8 @@ returns-else-raised-clause-settled c = λ not_raised t l at exact row.
     (c.is_more-raised.ensures.none c.if-raised.false) in
     let exact_u = subst (λ (r : Rows). AreDelaysBy (λ kept needs. kept ≡ needs) r c.args.delays.now) (sym tables_are)
     exact in
-    let settled = row-settled ss u k m needed c.args.delays.now c.link-link.ensures.lawful_row
+    let settled = row-settled c.args.options ss u k m needed c.args.delays.now c.link-link.ensures.lawful_row
     (c.needed_times-needed.ensures.jitter u at_u) c.needed_times-needed.ensures.latency
-    (c.needed_times-needed.ensures.skew u at_u) c.args.options none exact_u in
+    (c.needed_times-needed.ensures.skew u at_u) none exact_u in
     subst (λ (r : Rows). AreTimesSettled c.args.options ss r k l) tables_are
     (subst (AreTimesSettled c.args.options ss u k) row_is settled)

@@ -1,4 +1,4 @@
-use Rattle.afdx_bounds.proofs.TableLemmas.{line-at}
+use Rattle.afdx_law_bounds.proofs.TableLemmas.{line-at}
 use Rattle.afdx_switch.proofs.build.byte_ns.Goals as goal
 
 pub returns-in-Some-clause-byte_time : goal.returns-in-Some-clause-byte_time

@@ -1,6 +1,6 @@
 use Rattle.std.proofs.Common.{◌≡◌, List, ℕ, ◌++◌, ◌∙◌, ap, subst}
 use Rattle.std.specs.Prelude.{codes}
-use Rattle.afdx_lists.specs.FaultTexts.{fault_text}
+use Rattle.afdx_input_lines.specs.FaultTexts.{fault_text}
 use Rattle.afdx_text.specs.Telling.{Tells}
 use Rattle.afdx_text.proofs.telling.tell_fault.Goals as goal
 

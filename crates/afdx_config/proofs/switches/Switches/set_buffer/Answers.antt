@@ -10,27 +10,33 @@ pub invariant_of-self : goal.invariant_of-self
 invariant_of-self c =
     let items = c.self.inside.switches.items in
     let k = c.args.switch.0 in
-    let within : k < length items = subst (λ (ss : List NamedRows). k < length ss) (sym c.self.view_is) c.requires.switch in
+    let within : k < length items =
+    subst (λ (ss : List NamedRows). k < length ss) (sym c.self.view_is) c.requires.switch in
     let at = slice_get_read items (length items) k c.index_mut.result.now refl within c.index_mut.ensures.value in
     let e : slice_set items k c.set_buffer.new.self ≡ with_buffer_at k c.args.buffer items =
-    ap (slice_set items k) c.set_buffer.ensures ∙ changed-set (with_buffer c.args.buffer) items k c.index_mut.result.now at in
+    ap (slice_set items k) c.set_buffer.ensures
+    ∙ changed-set (with_buffer c.args.buffer) items k c.index_mut.result.now at in
     subst AreSwitches (sym e) (switches-buffer items c.self.invariant k c.args.buffer c.requires.buffer)
 
 pub returns-clause-changed : goal.returns-clause-changed
 returns-clause-changed c =
     let items = c.self.inside.switches.items in
     let k = c.args.switch.0 in
-    let within : k < length items = subst (λ (ss : List NamedRows). k < length ss) (sym c.self.view_is) c.requires.switch in
+    let within : k < length items =
+    subst (λ (ss : List NamedRows). k < length ss) (sym c.self.view_is) c.requires.switch in
     let at = slice_get_read items (length items) k c.index_mut.result.now refl within c.index_mut.ensures.value in
-    ap (slice_set items k) c.set_buffer.ensures ∙ changed-set (with_buffer c.args.buffer) items k c.index_mut.result.now at
+    ap (slice_set items k) c.set_buffer.ensures
+    ∙ changed-set (with_buffer c.args.buffer) items k c.index_mut.result.now at
     ∙ ap (with_buffer_at k c.args.buffer) c.self.view_is
 
 pub returns-clause-switches : goal.returns-clause-switches
 returns-clause-switches c =
     let items = c.self.inside.switches.items in
     let k = c.args.switch.0 in
-    let within : k < length items = subst (λ (ss : List NamedRows). k < length ss) (sym c.self.view_is) c.requires.switch in
+    let within : k < length items =
+    subst (λ (ss : List NamedRows). k < length ss) (sym c.self.view_is) c.requires.switch in
     let at = slice_get_read items (length items) k c.index_mut.result.now refl within c.index_mut.ensures.value in
     let e : slice_set items k c.set_buffer.new.self ≡ with_buffer_at k c.args.buffer items =
-    ap (slice_set items k) c.set_buffer.ensures ∙ changed-set (with_buffer c.args.buffer) items k c.index_mut.result.now at in
+    ap (slice_set items k) c.set_buffer.ensures
+    ∙ changed-set (with_buffer c.args.buffer) items k c.index_mut.result.now at in
     subst AreSwitches (sym e) (switches-buffer items c.self.invariant k c.args.buffer c.requires.buffer)

@@ -18,7 +18,8 @@ invariant_of-self c =
     let within = slice_get_within items k stands.switch stands.at in
     let at = slice_get_read items (length items) k c.index_mut.result.now refl within c.index_mut.ensures.value in
     let e : slice_set items k c.set_times.new.self ≡ with_times_at k c.args.index c.args.times items =
-    ap (slice_set items k) c.set_times.ensures ∙ changed-set (with_link_at c.args.index c.args.times) items k c.index_mut.result.now at in
+    ap (slice_set items k) c.set_times.ensures
+    ∙ changed-set (with_link_at c.args.index c.args.times) items k c.index_mut.result.now at in
     let may = subst (λ (ss : List NamedRows). (t : Rows) (l : LinkRow) → tables_at ss k ≡ Some t
     → slice_get t.links c.args.index ≡ Some l → IsLinkAmong t.own (length t.systems) (with_times c.args.times l))
     (sym c.self.view_is) c.requires.lawful in
@@ -32,7 +33,8 @@ returns-clause-changed c =
     (subst (λ (ss : List NamedRows). IsSome (link_at ss k c.args.index)) (sym c.self.view_is) c.requires.within) in
     let within = slice_get_within items k stands.switch stands.at in
     let at = slice_get_read items (length items) k c.index_mut.result.now refl within c.index_mut.ensures.value in
-    ap (slice_set items k) c.set_times.ensures ∙ changed-set (with_link_at c.args.index c.args.times) items k c.index_mut.result.now at
+    ap (slice_set items k) c.set_times.ensures
+    ∙ changed-set (with_link_at c.args.index c.args.times) items k c.index_mut.result.now at
     ∙ ap (with_times_at k c.args.index c.args.times) c.self.view_is
 
 pub returns-clause-switches : goal.returns-clause-switches
@@ -44,7 +46,8 @@ returns-clause-switches c =
     let within = slice_get_within items k stands.switch stands.at in
     let at = slice_get_read items (length items) k c.index_mut.result.now refl within c.index_mut.ensures.value in
     let e : slice_set items k c.set_times.new.self ≡ with_times_at k c.args.index c.args.times items =
-    ap (slice_set items k) c.set_times.ensures ∙ changed-set (with_link_at c.args.index c.args.times) items k c.index_mut.result.now at in
+    ap (slice_set items k) c.set_times.ensures
+    ∙ changed-set (with_link_at c.args.index c.args.times) items k c.index_mut.result.now at in
     let may = subst (λ (ss : List NamedRows). (t : Rows) (l : LinkRow) → tables_at ss k ≡ Some t
     → slice_get t.links c.args.index ≡ Some l → IsLinkAmong t.own (length t.systems) (with_times c.args.times l))
     (sym c.self.view_is) c.requires.lawful in

@@ -8,7 +8,8 @@ use Rattle.afdx_config.proofs.tables.Tables.set_times.Goals as goal
 pub invariant_of-self : goal.invariant_of-self
 invariant_of-self c =
     let inside = c.self.inside in
-    let t = rows_with inside.profile inside.buffer inside.own inside.systems inside.links (port_rows inside.coms.items) in
+    let t = rows_with inside.profile inside.buffer inside.own inside.systems inside.links
+    (port_rows inside.coms.items) in
     let may : (l : LinkRow) → slice_get t.links c.args.index ≡ Some l
     → IsLinkAmong t.own (length t.systems) (with_times c.args.times l) =
     subst (λ (r : Rows). (l : LinkRow) → slice_get r.links c.args.index ≡ Some l

@@ -93,8 +93,12 @@ returns-clause-decides c = (
       c.args.self.now.judging) (sym c.as_slice-2.ensures.value) r.continues.stands) in
       let out = c.in_ok-found.ensures.defined z (last_time z.by (arrivals_came (sound_events z over))) r.continues.j
       r.after.bounds judged
-      there (c.saturating_sub-ns.ensures ∙ ap (λ (n : ℕ). c.index-arrived.result.now.time - n) r.kept.last)
-      (c.is_open_by-is_open.ensures z r.after.bounds.limits known') sure' given in
+      there
+      (record {
+        ns = c.saturating_sub-ns.ensures ∙ ap (λ (n : ℕ). c.index-arrived.result.now.time - n) r.kept.last;
+        opens = c.is_open_by-is_open.ensures z r.after.bounds.limits known';
+      })
+      sure' given in
       let held = outcome-of z over c.index-arrived.result.now c.args.self.now c.judge_with.new.judging
       c.in_ok-found.found.items
       r.continues.j c.as_slice.result.now c.as_slice-2.result.now c.as_slice.ensures.value c.as_slice-2.ensures.value

@@ -1,6 +1,6 @@
 use Rattle.std.proofs.Common.{Ok, Err, None, arith}
-use Rattle.afdx_commands.specs.Counts.{no_counts}
-use Rattle.afdx_lists.specs.declared.fault.RunFault.TheVariants as run
+use Rattle.afdx_command_tables.specs.Counts.{no_counts}
+use Rattle.afdx_input_lines.specs.declared.fault.RunFault.TheVariants as run
 use Rattle.afdx_replay.proofs.CascadeOverLemmas.{first-told, replays-so}
 use Rattle.afdx_replay.proofs.SiteLemmas.{sites-count}
 use Rattle.afdx_replay.proofs.cascading.over.replay_sited.Goals as goal

@@ -1,5 +1,5 @@
 use Rattle.std.proofs.Common.{rules, arith, IfSome, None, Ok, ◌∙◌}
-use Rattle.afdx_commands.specs.Counts.{with_lines}
+use Rattle.afdx_command_tables.specs.Counts.{with_lines}
 use Rattle.afdx_replay.specs.cascading.Ran.{Answers}
 use Rattle.afdx_replay.proofs.CascadeOverLemmas.{answered-err, answered-ok, can-tell, none-told, stops-start}
 use Rattle.afdx_replay.proofs.SiteLemmas.{sites-count}

@@ -1,6 +1,6 @@
 use Rattle.std.proofs.Common.{IfSome, subst}
 use Rattle.afdx_police.specs.Rule.{Rule}
-use Rattle.afdx_recorded.specs.Claims.{one_port}
+use Rattle.afdx_input_sources.specs.Claims.{one_port}
 use Rattle.afdx_replay.specs.policing.Input.{Polices}
 use Rattle.afdx_replay.proofs.ReplaysLemmas.{ends-in}
 use Rattle.afdx_replay.proofs.policing.input_command.police_input.Goals as goal

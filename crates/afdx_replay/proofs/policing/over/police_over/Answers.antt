@@ -1,6 +1,6 @@
 use Rattle.std.proofs.Common.{rules, Ok, Err}
 use Rattle.afdx_police.specs.RuleOf.{rule_of}
-use Rattle.afdx_recorded.specs.Claims.{one_port}
+use Rattle.afdx_input_sources.specs.Claims.{one_port}
 use Rattle.afdx_replay.proofs.ReplaysLemmas.{polices-known}
 use Rattle.afdx_replay.proofs.policing.over.police_over.Goals as goal
 

@@ -1,12 +1,12 @@
 use Rattle.std.proofs.Common.{rules, refl, IfSome, Ok}
 use Rattle.afdx_police.specs.RuleOf.{rule_of}
-use Rattle.afdx_lists.specs.FrameLines.{listed_frame}
-use Rattle.afdx_commands.specs.declared.summary.Summary.{Summary}
-use Rattle.afdx_engine.specs.Items.{thing_of}
-use Rattle.afdx_engine.specs.Listed.{frames}
+use Rattle.afdx_input_lines.specs.FrameLines.{listed_frame}
+use Rattle.afdx_command_tables.specs.declared.summary.Summary.{Summary}
+use Rattle.afdx_input_sources.specs.Items.{thing_of}
+use Rattle.afdx_input_sources.specs.Listed.{frames}
 use Rattle.afdx_replay.specs.policing.Policed.{Answers, WritesText, WritesBeginning}
 use Rattle.afdx_replay.specs.policing.Told.{HasTold, TellsItems, BeginsItems}
-use Rattle.afdx_engine.proofs.ListRunLemmas.{answers-err, answers-ok}
+use Rattle.afdx_input_sources.proofs.ListRunLemmas.{answers-err, answers-ok}
 use Rattle.afdx_text.proofs.OutputLemmas.{whole_front as front-whole}
 use Rattle.afdx_replay.proofs.TextLemmas.{once-back}
 use Rattle.afdx_replay.proofs.ToldLemmas.{told-done}

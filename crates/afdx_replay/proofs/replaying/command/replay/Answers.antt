@@ -1,5 +1,5 @@
 use Rattle.std.proofs.Common.{refl, inl, inr, None}
-use Rattle.afdx_commands.specs.Taking.{described_of}
+use Rattle.afdx_command_tables.specs.Taking.{described_of}
 use Rattle.afdx_replay.proofs.CascadeOverLemmas.{file-promised}
 use Rattle.afdx_replay.proofs.replaying.command.replay.Goals as goal
 

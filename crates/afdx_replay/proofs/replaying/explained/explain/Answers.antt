@@ -1,7 +1,7 @@
 use Rattle.std.proofs.Common.{List, sym, subst}
-use Rattle.afdx_lists.specs.FrameLines.{listed_frame}
+use Rattle.afdx_input_lines.specs.FrameLines.{listed_frame}
 use Rattle.afdx_police.specs.Arrival.{Arrival}
-use Rattle.afdx_engine.specs.Listed.{arrival_at}
+use Rattle.afdx_input_sources.specs.Listed.{arrival_at}
 use Rattle.afdx_switch.specs.Early.{IsEarlyBy}
 use Rattle.afdx_replay.proofs.EarlyLemmas.{early-more, heard-more}
 use Rattle.afdx_replay.proofs.replaying.explained.explain.Goals as goal

@@ -1,5 +1,5 @@
 use Rattle.std.proofs.Common.{refl, inl, inr}
-use Rattle.afdx_commands.specs.Taking.{described_of}
+use Rattle.afdx_command_tables.specs.Taking.{described_of}
 use Rattle.afdx_replay.proofs.PlacedLemmas.{are-there}
 use Rattle.afdx_replay.proofs.ReplaysLemmas.{ends-in}
 use Rattle.afdx_replay.proofs.replaying.input_command.replay_input.Goals as goal

@@ -1,7 +1,7 @@
 use Rattle.std.proofs.Common.{◌∷◌, ◌∙◌, ap, sym, subst}
 use Rattle.std.specs.Io.KnownBytes.{Appends}
 use Rattle.std.proofs.KnownBytes.{Appends-nil}
-use Rattle.afdx_lists.specs.Calls.{AppendsFront}
+use Rattle.afdx_input_lines.specs.Calls.{AppendsFront}
 use Rattle.afdx_receive.specs.Words.{drop_word}
 use Rattle.afdx_end_systems.specs.Handovers.{handed_over}
 use Rattle.afdx_end_systems.specs.Receptions.{message_line, drop_line}

@@ -1,7 +1,7 @@
 use Rattle.std.proofs.Common.{Ok, Err}
-use Rattle.afdx_lists.specs.declared.fault.RunFault.TheVariants as run
-use Rattle.afdx_recorded.specs.Claims.{ports_of_one}
-use Rattle.afdx_inputs.proofs.ArrivalsLemmas.{if-known}
+use Rattle.afdx_input_lines.specs.declared.fault.RunFault.TheVariants as run
+use Rattle.afdx_input_sources.specs.Claims.{ports_of_one}
+use Rattle.afdx_input_runs.proofs.ArrivalsLemmas.{if-known}
 use Rattle.afdx_replay.specs.replaying.Input.{Replays}
 use Rattle.afdx_replay.proofs.ReplaysLemmas.{HearsSo, hears-start, replays-known, replays-none}
 use Rattle.afdx_replay.proofs.replaying.over.replay_over.Goals as goal

@@ -1,12 +1,12 @@
 use Rattle.std.proofs.Common.{rules, refl, IfSome, Ok}
-use Rattle.afdx_lists.specs.FrameLines.{listed_frame}
-use Rattle.afdx_engine.specs.Items.{thing_of}
-use Rattle.afdx_engine.specs.Listed.{frames}
+use Rattle.afdx_input_lines.specs.FrameLines.{listed_frame}
+use Rattle.afdx_input_sources.specs.Items.{thing_of}
+use Rattle.afdx_input_sources.specs.Listed.{frames}
 use Rattle.afdx_replay.specs.replaying.Replayed.{Answers, WritesSoFar, WritesSome, ToldAll}
-use Rattle.afdx_commands.specs.Counts.{with_lines}
+use Rattle.afdx_command_tables.specs.Counts.{with_lines}
 use Rattle.afdx_replay.specs.replaying.Told.{TellsItems, BeginsItems, TellsAll}
 use Rattle.afdx_replay.proofs.DefinedLemmas.{if-defined}
-use Rattle.afdx_engine.proofs.ListRunLemmas.{answers-err, answers-ok}
+use Rattle.afdx_input_sources.proofs.ListRunLemmas.{answers-err, answers-ok}
 use Rattle.afdx_replay.proofs.ReplayLemmas.{are-some, are-so-far, told-done, stops-start}
 use Rattle.afdx_replay.proofs.TextLemmas.{once-back}
 use Rattle.afdx_replay.proofs.replaying.run.run_unadmitted.Goals as goal

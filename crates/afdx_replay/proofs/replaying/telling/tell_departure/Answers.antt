@@ -1,7 +1,7 @@
 use Rattle.std.proofs.Common.{◌≡◌, ◌∙◌, ◌∷◌, sym, ap, refl, subst, true, false}
 use Rattle.std.specs.Io.KnownBytes.{Appends}
 use Rattle.afdx_frame.specs.Parts.{bytes_of}
-use Rattle.afdx_lists.specs.Calls.{AppendsFront}
+use Rattle.afdx_input_lines.specs.Calls.{AppendsFront}
 use Rattle.afdx_end_systems.specs.Receptions.{is_delivered}
 use Rattle.afdx_end_systems.specs.StandsFor as systems
 use Rattle.afdx_replay.specs.replaying.Text.{departure_line, frames_left, handed_over, heard, has_message, place_text}

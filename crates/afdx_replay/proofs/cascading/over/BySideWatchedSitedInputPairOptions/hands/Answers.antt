@@ -1,10 +1,10 @@
-use Rattle.afdx_inputs.specs.RecordingRun.{AreCutOffInPair, taken_of_pair}
-use Rattle.afdx_inputs.proofs.PairAnswerLemmas.{pair-unread}
-use Rattle.afdx_inputs.proofs.RecordingRunLemmas.{listed-none}
-use Rattle.afdx_lists.specs.Watching.{device_of}
-use Rattle.afdx_lists.specs.declared.fault.RunFault.TheVariants as run
-use Rattle.afdx_recorded.specs.Claims.{ports_of_several}
-use Rattle.afdx_recorded.specs.NumberLines.{arrivals_listed}
+use Rattle.afdx_input_runs.specs.RecordingRun.{AreCutOffInPair, taken_of_pair}
+use Rattle.afdx_input_runs.proofs.PairAnswerLemmas.{pair-unread}
+use Rattle.afdx_input_runs.proofs.RecordingRunLemmas.{listed-none}
+use Rattle.afdx_input_lines.specs.Watching.{device_of}
+use Rattle.afdx_input_lines.specs.declared.fault.RunFault.TheVariants as run
+use Rattle.afdx_input_sources.specs.Claims.{ports_of_several}
+use Rattle.afdx_input_sources.specs.NumberLines.{arrivals_listed}
 use Rattle.afdx_replay.specs.cascading.Items.{BeginsItems, TellsAll, TellsItems}
 use Rattle.afdx_replay.specs.cascading.Ran.{HearsSoFar, WritesSoFar}
 use Rattle.afdx_replay.specs.cascading.Sited.{lines_in}

@@ -1,6 +1,6 @@
 use Rattle.std.proofs.Common.{rules}
-use Rattle.afdx_inputs.specs.RecordingRun.{AreCutOffInPair, taken_of_pair}
-use Rattle.afdx_recorded.specs.Claims.{ports_of_several}
+use Rattle.afdx_input_runs.specs.RecordingRun.{AreCutOffInPair, taken_of_pair}
+use Rattle.afdx_input_sources.specs.Claims.{ports_of_several}
 use Rattle.afdx_replay.proofs.CascadeOverLemmas.{pair-err, pair-ok}
 use Rattle.afdx_replay.proofs.cascading.over.BySideWatchedSitedInputPairOptions.tell_sited.Goals as goal
 

@@ -1,5 +1,5 @@
-use Rattle.afdx_lists.specs.Peeking.{left_in}
-use Rattle.afdx_lists.specs.Watching.{device_of}
+use Rattle.afdx_input_lines.specs.Peeking.{left_in}
+use Rattle.afdx_input_lines.specs.Watching.{device_of}
 use Rattle.afdx_replay.specs.cascading.Items.{BeginsItems, TellsAll, TellsItems}
 use Rattle.afdx_replay.specs.cascading.Ran.{HearsSoFar, WritesSoFar}
 use Rattle.afdx_replay.specs.cascading.Sited.{lines_in}

@@ -4,8 +4,8 @@ use Rattle.afdx_cascade.specs.Cascade.{ArrivesNext, line_at}
 use Rattle.afdx_cascade.specs.Plans.{plan_of}
 use Rattle.afdx_cascade.specs.Runs.{arriving}
 use Rattle.afdx_cascade.specs.SwitchEvents.{came_to}
-use Rattle.afdx_engine.specs.Listed.{arrival_at}
-use Rattle.afdx_lists.specs.FrameLines.{listed_frame}
+use Rattle.afdx_input_sources.specs.Listed.{arrival_at}
+use Rattle.afdx_input_lines.specs.FrameLines.{listed_frame}
 use Rattle.afdx_police.specs.Verdicts.{is_over_rate}
 use Rattle.afdx_switch.specs.Early.{IsEarlyBy}
 use Rattle.afdx_switch.specs.Verdicts.{shape_fault}

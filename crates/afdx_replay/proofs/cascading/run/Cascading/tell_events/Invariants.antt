@@ -3,8 +3,8 @@ use Rattle.afdx_cascade.specs.Cascade as cascade
 use Rattle.afdx_cascade.specs.Runs.{Line}
 use Rattle.afdx_cascade.specs.SwitchEvents.{SwitchEvent}
 use Rattle.afdx_config.specs.Switches.{NamedRows}
-use Rattle.afdx_engine.specs.Items.{most_frames}
-use Rattle.afdx_lists.specs.declared.watched.Watched.{Watched as Device}
+use Rattle.afdx_input_sources.specs.Items.{most_frames}
+use Rattle.afdx_input_lines.specs.declared.watched.Watched.{Watched as Device}
 use Rattle.afdx_replay.specs.cascading.Told.{AreFirst, AreSteady, HasTold, ToldUntil, total}
 use Rattle.afdx_replay.proofs.cascading.run.Cascading.tell_events.Given as goal
 

@@ -1,6 +1,6 @@
 use Rattle.std.proofs.Common.{arith, inl, inr, subst, sym}
-use Rattle.afdx_engine.specs.Engine.{Item, item_of}
-use Rattle.afdx_lists.specs.declared.frame_line.Heading.{Heading}
+use Rattle.afdx_input_sources.specs.Engine.{Item, item_of}
+use Rattle.afdx_input_lines.specs.declared.frame_line.Heading.{Heading}
 use Rattle.afdx_replay.specs.cascading.Sited.{line_of, lines_in}
 use Rattle.afdx_replay.specs.cascading.Told.{AreSteady, ToldUntil}
 use Rattle.afdx_replay.proofs.CascadeArriveLemmas.{arrival-begun, arrival-told, err-by, err-of, items-clock, items-first}

@@ -1,7 +1,7 @@
 use Rattle.std.proofs.Common.{sym, subst}
 use Rattle.afdx_cascade.specs.Cascade.{TellsEvent}
 use Rattle.afdx_cascade.specs.Plans.{plan_of}
-use Rattle.afdx_lists.specs.Calls.{AppendsFront}
+use Rattle.afdx_input_lines.specs.Calls.{AppendsFront}
 use Rattle.afdx_replay.specs.cascading.Text.{event_lines}
 use Rattle.afdx_replay.specs.cascading.Told.{TellsOne}
 use Rattle.afdx_replay.proofs.CascadeArrivalLemmas.{heard-left}

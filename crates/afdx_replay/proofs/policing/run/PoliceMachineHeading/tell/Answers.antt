@@ -1,7 +1,7 @@
 use Rattle.std.proofs.Common.{rules, arith, ◌≡◌, ℕ, List, ap, inr, Err}
-use Rattle.afdx_lists.specs.FrameLines.{listed_frame}
-use Rattle.afdx_engine.specs.Items.{arrivals}
-use Rattle.afdx_engine.specs.Listed.{arrival_at}
+use Rattle.afdx_input_lines.specs.FrameLines.{listed_frame}
+use Rattle.afdx_input_sources.specs.Items.{arrivals}
+use Rattle.afdx_input_sources.specs.Listed.{arrival_at}
 use Rattle.afdx_replay.specs.policing.Text.{verdict_line}
 use Rattle.afdx_replay.proofs.ToldLemmas.{told-next, begun-next, counts_if, counts-one}
 use Rattle.afdx_replay.proofs.policing.run.PoliceMachineHeading.tell.Goals as goal

@@ -1,7 +1,7 @@
 use Rattle.std.proofs.Common.{rules, ◌≡◌, Err, arith, add-one, length}
-use Rattle.afdx_lists.specs.FrameLines.{listed_frame}
-use Rattle.afdx_engine.specs.Items.{arrivals}
-use Rattle.afdx_engine.specs.Listed.{arrival_at}
+use Rattle.afdx_input_lines.specs.FrameLines.{listed_frame}
+use Rattle.afdx_input_sources.specs.Items.{arrivals}
+use Rattle.afdx_input_sources.specs.Listed.{arrival_at}
 use Rattle.afdx_replay.proofs.EarlyLemmas.{begun-early}
 use Rattle.afdx_replay.proofs.replaying.explained.ExplainingMachineHeading.tell.Goals as goal
 

@@ -1,5 +1,5 @@
 use Rattle.std.proofs.Common.{arith, add-one, length}
-use Rattle.afdx_engine.specs.Items.{arrivals}
+use Rattle.afdx_input_sources.specs.Items.{arrivals}
 use Rattle.afdx_replay.proofs.replaying.run.ReplayMachineHeading.tell.Goals as goal
 
 pub returns-clause-told : goal.returns-clause-told

@@ -1,7 +1,0 @@
-use Rattle.afdx_acceptance.proofs.RunLawLemmas.{is_the_headline}
-use Rattle.afdx_acceptance.proofs.ShownLemmas.{shows_the_rule}
-use Rattle.afdx_acceptance.proofs.VerdictLemmas.{exact_conforms}
-use Rattle.afdx_acceptance.proofs.laws.conforms_is_the_headline.Goals as goal
-
-pub returns : goal.returns
-returns c = record { found = is_the_headline; answer = exact_conforms; shows = shows_the_rule }

@@ -1,5 +1,0 @@
-use Rattle.afdx_acceptance.proofs.RunExampleLemmas.{premises_met}
-use Rattle.afdx_acceptance.proofs.laws.premises_are_met.Goals as goal
-
-pub returns : goal.returns
-returns c = premises_met

@@ -1,7 +1,0 @@
-use Rattle.afdx_config.specs.Rows.{link_row}
-use Rattle.afdx_acceptance.proofs.OutletLemmas.{receiver-known}
-use Rattle.afdx_acceptance.proofs.outlets.receiver.Goals as goal
-
-pub returns-clause-known : goal.returns-clause-known
-returns-clause-known c = receiver-known c.args.tables.now c.link.result.now c.args.rank c.index.result.now
-    c.link.ensures.lawful_row (c.requires.rank (link_row c.link.result.now) c.link.ensures.row) c.index.ensures

@@ -1,5 +1,0 @@
-use Rattle.afdx_bounds.proofs.AdmittedLemmas.{none-lost}
-use Rattle.afdx_bounds.proofs.laws.none_is_lost.Goals as goal
-
-pub returns : goal.returns
-returns g c = none-lost c.accounts_move.ensures

@@ -1,7 +1,0 @@
-//! Why an output port's buffer suffices and its frames are in time: laws over schedules and the
-//! window rule.
-//!
-//! Its tests are in `afdx_part_tests`.
-#![tactic(auto)]
-
-pub mod laws;

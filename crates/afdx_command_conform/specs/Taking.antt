@@ -1,0 +1,162 @@
+-- What comes in, leaves or is told while a run goes on, of whatever is kept. `done` says what holds
+-- where a call did its work: else memory was refused.
+use Rattle.std.specs.Prelude.{◌≡◌, ℕ, ◌+◌, ◌<◌, ◌≤◌, true, List, [], ◌∷◌, All, length, Option, Some, None, slice_get}
+use Rattle.std.specs.List.{AllByRecursion}
+use Rattle.std.specs.List.Sorted.{IsPermutation}
+use Rattle.afdx_law_bounds.specs.Tables.{port_of}
+use Rattle.afdx_config.specs.Lawful.{IsLawfulSwitch}
+use Rattle.afdx_config.specs.Rows.{LinkRow, Rows, is_to}
+use Rattle.afdx_conform.specs.Explanations.{from_time}
+use Rattle.afdx_conform.specs.Growing.{MayCome, MayLeave}
+use Rattle.afdx_conform.specs.Histories.{nothing_judged}
+use Rattle.afdx_conform.specs.Leeway.{reach}
+use Rattle.afdx_conform.specs.LeewayOf.{leeway_of}
+use Rattle.afdx_conform.specs.Limits.{gone_of}
+use Rattle.afdx_conform.specs.Marks.{IsJudged, arrival_of}
+use Rattle.afdx_conform.specs.Ranges.{most_held}
+use Rattle.afdx_conform.specs.Standing.{StandsFor, due_of}
+use Rattle.afdx_conform.specs.Streams.{Gone}
+use Rattle.afdx_conform.specs.declared.arrived.Arrived.{Arrived}
+use Rattle.afdx_conform.specs.declared.leeway.Leeway.{Leeway}
+use Rattle.afdx_conform.specs.declared.limits.Frame as left
+use Rattle.afdx_conform.specs.declared.streaming.Stream.{Stream}
+use Rattle.afdx_frame.specs.declared.link.Side.{Side}
+use Rattle.afdx_input_runs.specs.Joining.{Frame}
+use Rattle.afdx_police.specs.Arrival.{Arrival}
+use Rattle.afdx_command_conform.specs.Awaited.{rank_of}
+use Rattle.afdx_command_conform.specs.Choices.{Choices, counts}
+use Rattle.afdx_command_conform.specs.Frames.{terms_at}
+use Rattle.afdx_command_conform.specs.Keeping.{AreKept, Given, IsStreamOf, is_known, kept_with, slot_at, with_came, with_left, with_strange}
+use Rattle.afdx_command_conform.specs.Keys.{IsKey, key_with}
+use Rattle.afdx_command_conform.specs.Lines.{Due}
+use Rattle.afdx_command_conform.specs.Slots.{AreFalling, IsStrange, IsStream, told_at, waiting_due}
+use Rattle.afdx_command_conform.specs.Standing.{IsBehindAll, StreamsStand}
+use Rattle.afdx_command_conform.specs.Tapped.{place_named}
+use Rattle.afdx_command_conform.specs.declared.agenda.Entry.{Entry}
+use Rattle.afdx_command_conform.specs.declared.kept.Kept.{Kept}
+use Rattle.afdx_command_conform.specs.declared.kept.Lines.{Lines}
+use Rattle.afdx_command_conform.specs.declared.key.Key.{Key}
+use Rattle.afdx_command_conform.specs.declared.strangers.Stranger.{Stranger}
+use Rattle.afdx_command_conform.specs.declared.streams.Streams.{Streams}
+
+-- the key of a link's stream to a system or neighbour
+abbrev pub key_to : Rows → Side → (link system : ℕ) → Key
+key_to t side link system = key_with side (port_of t system) (Some link)
+
+-- ---- of one key
+
+module _ (done : Type 0 → Type 0) (old new : Kept) where
+  -- a stream of which nothing came is kept in the place of none
+  abbrev pub PutsStream : Key → Stream → Type 0
+  PutsStream key stream =
+      (t : Rows) (c : Choices) (until time : ℕ) (given : Key → Given) (lines : List Due)
+      (l : LinkRow) → IsLawfulSwitch t → IsStreamOf t key l →
+      StandsFor (terms_at t c until l key.port) [] [] nothing_judged time stream →
+      due_of stream ≡ None →
+      (IsStream (slot_at old.slots.items key) → ⊥) →
+      AreKept t c until None time given lines old →
+      done (AreKept t c until None time given lines new × IsStream (slot_at new.slots.items key))
+
+  -- an arrival is the newest that is given of its stream, which is kept
+  abbrev pub AddsArrival : Key → Arrived → Type 0
+  AddsArrival key arrived =
+      (t : Rows) (c : Choices) (until time : ℕ) (given : Key → Given) (lines : List Due)
+      (l : LinkRow) → IsLawfulSwitch t → IsStreamOf t key l →
+      IsJudged (terms_at t c until l key.port) arrived →
+      MayCome (terms_at t c until l key.port) (given key).came time (arrival_of arrived) →
+      IsStream (slot_at old.slots.items key) →
+      AreKept t c until None time given lines old →
+      done (AreKept t c until None time (with_came key (arrival_of arrived) given) lines new)
+
+  -- so is a frame
+  abbrev pub AddsFrame : Key → left.Frame → Type 0
+  AddsFrame key frame =
+      (t : Rows) (c : Choices) (until time : ℕ) (given : Key → Given) (lines : List Due)
+      (l : LinkRow) → IsLawfulSwitch t → IsStreamOf t key l →
+      MayLeave (terms_at t c until l key.port) (given key).left time (gone_of frame) →
+      IsStream (slot_at old.slots.items key) →
+      AreKept t c until None time given lines old →
+      done (AreKept t c until None time (with_left key (gone_of frame) given) lines new)
+
+  -- a frame of no stream is the newest of those that are given of its port, where there is room for
+  -- such
+  abbrev pub AddsStranger : Key → Stranger → Type 0
+  AddsStranger key stranger =
+      (t : Rows) (c : Choices) (until time : ℕ) (given : Key → Given) (lines : List Due) →
+      IsLawfulSwitch t → key.link ≡ None → is_known t key ≡ true →
+      time ≤ stranger.time → AreFalling (waiting_due key stranger ∷ (given key).strange) →
+      IsStrange (slot_at old.slots.items key) →
+      AreKept t c until None time given lines old →
+      done (AreKept t c until None time (with_strange key (waiting_due key stranger) given) lines
+      new)
+
+  -- and where there may be none
+  abbrev pub TakesStranger : Key → Stranger → Type 0
+  TakesStranger key stranger =
+      (t : Rows) (c : Choices) (until time : ℕ) (given : Key → Given) (lines : List Due) →
+      IsLawfulSwitch t → time ≤ stranger.time →
+      AreFalling (waiting_due key stranger ∷ (given key).strange) →
+      AreKept t c until None time given lines old →
+      done (AreKept t c until None time (with_strange key (waiting_due key stranger) given) lines
+      new)
+
+  -- of a link of these tables, by what may be off
+  module _ (t : Rows) (leeway : Leeway) (link system : ℕ) where
+    -- its stream to a system or neighbour is kept in the place of none
+    abbrev pub MakesStream : Key → Type 0
+    MakesStream key =
+        (c : Choices) (until time : ℕ) (given : Key → Given) (lines : List Due) (l : LinkRow) →
+        IsLawfulSwitch t → IsStreamOf t key l →
+        slice_get t.links link ≡ Some l → port_of t system ≡ key.port →
+        leeway_of leeway ≡ c.by → (IsStream (slot_at old.slots.items key) → ⊥) →
+        AreKept t c until None time given lines old →
+        done (AreKept t c until None time given lines new
+        × IsStream (slot_at new.slots.items key))
+
+    -- an arrival, of no earlier time than those before it, is the newest that is given of that one
+    abbrev pub TakesArrival : Arrival → Type 0
+    TakesArrival x =
+        (c : Choices) (until time : ℕ) (given : Key → Given) (lines : List Due) (l : LinkRow) →
+        slice_get t.links link ≡ Some l → is_to system l ≡ true →
+        leeway_of leeway ≡ c.by → time ≤ x.time → from_time c.by.start ≤ x.time →
+        AllByRecursion (λ w. w.time ≤ x.time) (given (key_to t x.side link system)).came →
+        length (given (key_to t x.side link system)).came + 1 < most_held →
+        AreKept t c until None time given lines old →
+        done (AreKept t c until None time (with_came (key_to t x.side link system) x given) lines
+        new)
+
+    -- so is a frame that left on a side
+    abbrev pub TakesFrame : Side → Gone → Type 0
+    TakesFrame side y =
+        (c : Choices) (until time : ℕ) (given : Key → Given) (lines : List Due) (l : LinkRow) →
+        slice_get t.links link ≡ Some l → is_to system l ≡ true →
+        leeway_of leeway ≡ c.by → time ≤ y.time → from_time c.by.start ≤ y.time + reach c.by →
+        AllByRecursion (λ w. w.time ≤ y.time) (given (key_to t side link system)).left →
+        length (given (key_to t side link system)).left + 1 < most_held →
+        AreKept t c until None time given lines old →
+        done (AreKept t c until None time (with_left (key_to t side link system) y given) lines
+        new)
+
+-- what is due first is told, and stands on the agenda no more
+abbrev pub TellsFirst : ((Lines → Type 0) → Type 0) → Kept → Kept → Entry → Option ℕ → Type 0
+TellsFirst done old new entry ended =
+    (t : Rows) (c : Choices) (until time : ℕ) (given : Key → Given) (lines : List Due)
+    (whole : List Entry) → IsLawfulSwitch t → IsKey entry.key →
+    IsPermutation whole (entry ∷ old.agenda) →
+    All (λ y. rank_of entry ≤ rank_of y) old.agenda →
+    (ended ≡ None → entry.moment < time) →
+    AreKept t c until ended time given lines (kept_with old.slots whole) →
+    done (λ l. AreKept t c until ended time given
+    (told_at l.key l.moment l.lines.items lines) new)
+
+-- ---- of all streams
+
+-- a frame that counts, of no earlier time than those before it, is the newest that they stand for;
+-- `named` is the place of the link that it names
+abbrev pub StandsForMore : (Type 0 → Type 0) → Streams → Streams → Option ℕ → Frame → Type 0
+StandsForMore done old new named x =
+    (t : Rows) (c : Choices) (until time : ℕ) (frames : List Frame) (lines : List Due) →
+    named ≡ place_named old.tables.now x.arrival.bytes → counts t c x ≡ true →
+    time ≤ x.arrival.time → IsBehindAll x.arrival.time frames → length frames + 1 < most_held →
+    old.ended ≡ None → StreamsStand t c until frames lines time old →
+    done (StreamsStand t c until (x ∷ frames) lines time new)

@@ -1,0 +1,32 @@
+-- What the counts of a run answer.
+use Rattle.std.specs.Prelude.{ℕ, Bool, ◌&&◌, ◌||◌, nat_eq, nat_lt, if◌then◌else◌}
+use Rattle.afdx_text.specs.declared.conform_line.Answer.{Answer}
+use Rattle.afdx_text.specs.declared.conform_line.Answer.TheVariants.{Conforms, Deviates, Undecided}
+use Rattle.afdx_text.specs.declared.conform_line.ConformLine.{ConformLine}
+use Rattle.afdx_text.specs.declared.conform_line.ConformLine.TheVariants.{Judged}
+use Rattle.afdx_command_conform.specs.declared.totals.Totals.{Totals}
+
+-- a stream is idle, where that matters
+abbrev pub is_unexercised : Totals → Bool
+is_unexercised t = t.is_exercised && nat_lt 0 t.idle
+
+-- a finding is a deviation; nothing is shown where a stream is unsure, or no frame is explained, or
+-- a stream is idle where that matters
+abbrev pub answer_of : Totals → Answer
+answer_of t =
+    if nat_lt 0 t.findings then Deviates t.findings
+    else if t.is_unsure || nat_eq t.explained 0 || is_unexercised t then Undecided
+    else Conforms
+
+abbrev pub last_line : Totals → ConformLine
+last_line t =
+    Judged (answer_of t) t.explained t.waiting t.uncertain t.left_out t.unseen t.idle
+
+-- the exit status of a run that came to its end
+abbrev pub answer_status : Answer → ℕ
+answer_status Conforms = 0
+answer_status (Deviates findings) = 5
+answer_status Undecided = 3
+
+abbrev pub status_of : Totals → ℕ
+status_of t = answer_status (answer_of t)

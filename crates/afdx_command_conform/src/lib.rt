@@ -1,0 +1,34 @@
+//! Whether a recorded switch did what its tables say: the run over what came and what left, its
+//! text, and the command `conform`.
+//!
+//! Its tests are in `afdx_test_runs`.
+#![tactic(auto)]
+
+mod agenda;
+mod asked;
+mod choices;
+mod command;
+mod counting;
+mod hints;
+mod joining;
+mod judging;
+mod kept;
+mod key;
+pub mod laws;
+mod outlets;
+mod run;
+mod slot;
+mod strangers;
+mod streams;
+mod tapped;
+mod telling;
+mod totals;
+mod whole;
+
+pub use afdx_conform::Leeway;
+pub use afdx_input_lines::{ByRole, Watched};
+pub use afdx_input_runs::{AsLists, SeenCount, SeenFrames};
+pub use choices::Choices;
+pub use command::{Judged, conform};
+pub use run::{RunCounts, run_conform};
+pub use totals::Totals;

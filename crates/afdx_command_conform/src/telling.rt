@@ -1,0 +1,50 @@
+//! Lines that are told, and how many of them are findings.
+
+ghost use Rattle.std.specs.Prelude.{◌≡◌, IfErr, OnErr, OnOk, false, min};
+ghost use Rattle.std.specs.Io.KnownBytes.{Appends};
+ghost use Rattle.afdx_command_conform.specs.Telling as spec;
+ghost use Rattle.afdx_input_lines.specs.Calls.{AppendsFront, is_failed_write};
+ghost use Rattle.afdx_text.specs.Sinks.{IsOfOutput};
+
+use afdx_input_lines::RunFault;
+use afdx_text::{ConformLine, OutLine, Sink};
+
+/// Whether a line says what the switch did wrong.
+fn is_finding(line: &ConformLine) -> bool
+    ensures { result ≡ spec.is_finding line.now }
+{
+    match line {
+        ConformLine::Unsure { .. } | ConformLine::Judged { .. } => false,
+        _ => true,
+    }
+}
+
+/// How many lines say so.
+pub(crate) fn findings_in(lines: &[ConformLine]) -> u64
+    ensures { result ≡ min (spec.findings_in lines.now) spec.most_counted }
+{
+    let mut count: u64 = 0;
+    for line in lines {
+        if is_finding(line) {
+            count = count.saturating_add(1);
+        }
+    }
+    count
+}
+
+/// Puts some lines.
+pub(crate) fn put_lines<O: Sink>(lines: &[ConformLine], output: &mut O) -> Result<(), RunFault>
+    requires sound { O.failed output.old ≡ false }
+    ensures failed { O.failed output.new ≡ is_failed_write result }
+    ensures fault { IfErr result IsOfOutput }
+    ensures settings { O.settings output.new ≡ O.settings output.old }
+    ensures told { OnOk result (Appends (O.written output.old) (O.written output.new)
+        (spec.lines_text lines.now)) }
+    ensures begun { OnErr result (AppendsFront (O.written output.old) (O.written output.new)
+        (spec.lines_text lines.now)) }
+{
+    for line in lines {
+        output.put(&OutLine::Conform(*line))?;
+    }
+    Ok(())
+}

@@ -1,0 +1,11 @@
+pub mod Counts
+pub mod Commands
+pub mod CheckText
+pub mod CascadeText
+pub mod Checking
+pub mod SolveText
+pub mod Solving
+pub mod Refusals
+pub mod Taking
+pub mod Senders
+pub mod sending

@@ -1,6 +1,0 @@
-pub mod CheckLemmas
-mod SolveLemmas
-pub mod RefusalLemmas
-pub mod BelowLemmas
-pub mod TakingLemmas
-pub mod SenderLemmas

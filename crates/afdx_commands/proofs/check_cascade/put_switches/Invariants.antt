@@ -1,8 +1,0 @@
-use Rattle.std.proofs.Common.{◌≡◌, ◌++◌}
-use Rattle.afdx_text.specs.Texts.{text_bytes}
-use Rattle.afdx_commands.specs.CascadeText.{texts_below, switch_lines}
-use Rattle.afdx_commands.proofs.check_cascade.put_switches.Given as goal
-
-abbrev pub invariant-loop-k : goal.invariant-loop-k
-invariant-loop-k l = text_bytes l.text
-    ≡ text_bytes l.fn.text ++ texts_below (switch_lines l.margins l.switches) l.k

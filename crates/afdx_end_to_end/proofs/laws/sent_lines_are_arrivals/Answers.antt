@@ -1,5 +1,0 @@
-use Rattle.afdx_end_to_end.proofs.SentArrivalLemmas.{lines-are-arrivals}
-use Rattle.afdx_end_to_end.proofs.laws.sent_lines_are_arrivals.Goals as goal
-
-pub returns : goal.returns
-returns c = lines-are-arrivals c.built_is_computed.ensures

@@ -1,4 +1,0 @@
-pub mod EngineLemmas
-pub mod ListSourceLemmas
-pub mod ListRunLemmas
-pub mod RunLemmas

@@ -1,0 +1,4 @@
+use Rattle.afdx_input_runs.proofs.over_roles.TimedPairOrderedReadRecordingReadsNumberLineByRoleWatched.stays.Goals as goal
+
+pub returns : goal.returns
+returns g c a b e = e

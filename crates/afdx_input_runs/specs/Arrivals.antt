@@ -1,0 +1,125 @@
+-- What a run takes of its input, whatever that is, and how much is told of it.
+use Rattle.std.specs.Prelude.{ℕ, ◌≡◌, ◌≤◌, ◌⊎◌, Bool, true, false, List, [], ◌∷◌, Option, Some}
+use Rattle.std.specs.Prelude.{Result, Ok, Err}
+use Rattle.afdx_frame.specs.declared.by_side.BySide.{BySide}
+use Rattle.afdx_police.specs.Arrival.{Arrival}
+use Rattle.afdx_input_lines.specs.Lines.{lines_of}
+use Rattle.afdx_input_lines.specs.Peeking.{is_untouched, left_in}
+use Rattle.afdx_input_lines.specs.Watching.{calls_of, device_of, has_ended, has_failed}
+use Rattle.afdx_input_lines.specs.declared.fault.RunFault.{RunFault}
+use Rattle.afdx_input_lines.specs.declared.peeked.Peeked.{Peeked}
+use Rattle.afdx_input_lines.specs.declared.watched.Watched.{Watched}
+use Rattle.afdx_input_sources.specs.Causes.{Cause, cause_of, FailedWrite, NoMemory}
+use Rattle.afdx_input_sources.specs.Engine.{Item}
+use Rattle.afdx_input_sources.specs.Listed.{frames}
+use Rattle.afdx_input_sources.specs.ListRun.{IsDone}
+use Rattle.afdx_input_sources.specs.Lists.{latest_in}
+use Rattle.afdx_input_sources.specs.Stops.{StopsAt}
+use Rattle.afdx_input_sources.specs.Becoming.{Options, options_of}
+use Rattle.afdx_input_sources.specs.Claims.{Ports}
+use Rattle.afdx_input_sources.specs.NumberLines.{Lines}
+use Rattle.afdx_input_sources.specs.Taking.{Taken, AreCutOff, taken_of_bytes}
+use Rattle.afdx_input_sources.specs.declared.becoming.RecordingOptions.{RecordingOptions}
+use Rattle.afdx_input_sources.specs.declared.pair_options.PairOptions.{PairOptions}
+use Rattle.afdx_input_runs.specs.InputRun.{is_read_recorded, IsAskedFew}
+use Rattle.afdx_input_runs.specs.RecordingRun.{AreCutOffInPair, IsAskedOnce, taken_of_pair}
+use Rattle.afdx_input_runs.specs.TakenRun.{IsOver, StopsTaken}
+use Rattle.afdx_input_runs.specs.declared.input_run.InputCount.{InputCount}
+use Rattle.afdx_input_runs.specs.declared.input_run.InputCount.TheVariants as count
+
+-- By a run's answer: Ok, all is so to the end; after a failed write, or want of memory, some is; at
+-- any other fault, all so far.
+abbrev pub ByCause : Cause → (so_far some : Type 0) → Type 0
+ByCause FailedWrite so_far some = some
+ByCause NoMemory so_far some = some
+ByCause _ so_far some = so_far
+
+abbrev pub By : {X : Type 0} → Result X RunFault → (all so_far some : Type 0) → Type 0
+By (Ok x) all so_far some = all
+By (Err fault) all so_far some = ByCause (cause_of fault) so_far some
+
+-- A run with this answer has taken what some items say, and by the answer these were told: to the
+-- end, all of them, or all or a beginning.
+abbrev pub TookAndTold : {H T X : Type 0} → (say : List (Item H) → List T) →
+    (takes : List T → Result X RunFault → Type 0) → Result X RunFault →
+    (done told begins : List (Item H) → Type 0) → Type 0
+TookAndTold {H} say takes answer done told begins =
+    (items : List (Item H)) × takes (say items) answer
+    × By answer (done items) (told items) (told items ⊎ begins items)
+
+-- ---- with this answer a run has taken these arrivals
+
+-- of the whole `whole` of recordings; `AreCut` says what was read until a read failed
+abbrev pub TakesRecorded : (whole : Taken) → (AreCut : Lines → Type 0) → List Arrival →
+    Result InputCount RunFault → Type 0
+TakesRecorded whole AreCut past (Ok (count.Recorded tally)) = IsOver whole (λ all. all ≡ past) tally
+TakesRecorded whole AreCut past (Ok (count.Lines n)) = ⊥
+TakesRecorded whole AreCut past (Err fault) =
+    StopsTaken whole AreCut (λ all. all ≡ past) (λ all. all ≡ past) fault
+
+-- of a list of these bytes, after which the input has `rest`
+abbrev pub TakesListed : List ℕ → (rest : Option (List ℕ)) → List Arrival →
+    Result InputCount RunFault → Type 0
+TakesListed bytes rest past (Ok (count.Lines n)) =
+    IsDone frames (λ all. all ≡ past) n (lines_of bytes)
+TakesListed bytes rest past (Ok (count.Recorded tally)) = ⊥
+TakesListed bytes rest past (Err fault) =
+    StopsAt (λ all. all ≡ past) (λ all. all ≡ past) bytes rest fault
+
+-- of an input of these bytes: a recording (true), or a list
+abbrev pub TakesAs : Bool → Options → Ports → List ℕ → (rest : Option (List ℕ)) → List Arrival →
+    Result InputCount RunFault → Type 0
+TakesAs true options ports bytes rest past answer =
+    TakesRecorded (taken_of_bytes options ports bytes) (AreCutOff options ports bytes rest)
+    past answer
+TakesAs false options ports bytes rest past answer = TakesListed bytes rest past answer
+
+module _ {R : Type 0} (remaining : R → Option (List ℕ)) where
+  -- so its first bytes decide
+  abbrev pub TakesOne : RecordingOptions → Ports → List ℕ → (rest : Watched (Peeked R)) →
+      List Arrival → Result InputCount RunFault → Type 0
+  TakesOne options ports bytes rest past answer =
+      TakesAs (is_read_recorded options (Some bytes)) (options_of options) ports bytes
+      (left_in remaining (device_of rest)) past answer
+
+  -- of two recordings of these bytes
+  abbrev pub TakesTwo : PairOptions → Ports → (both : List ℕ × List ℕ) →
+      (rest : BySide (Watched R)) → List Arrival → Result InputCount RunFault → Type 0
+  TakesTwo options ports both rest past answer =
+      TakesRecorded (taken_of_pair options ports both.0 both.1)
+      (AreCutOffInPair options ports remaining both.0 both.1 rest) past answer
+
+  -- ---- how often they are asked, from the first to the last
+
+  abbrev pub IsAskedForOne : RecordingOptions → (first last : Watched (Peeked R)) → Type 0
+  IsAskedForOne options first last =
+      IsAskedFew options (left_in remaining (device_of first)) (left_in remaining (device_of last))
+      (calls_of first) (calls_of last)
+
+  abbrev pub IsAskedForEach : PairOptions → (first last : BySide (Watched R)) → Type 0
+  IsAskedForEach options first last =
+      IsAskedOnce (remaining (device_of first.a)) (remaining (device_of last.a))
+      (calls_of first.a) (calls_of last.a)
+      × IsAskedOnce (remaining (device_of first.b)) (remaining (device_of last.b))
+      (calls_of first.b) (calls_of last.b)
+
+-- ---- nothing was asked yet
+
+pub record IsSound {R : Type 0} (input : Watched R) : Type 0 where
+  pub sound : has_failed input ≡ false
+  pub unended : has_ended input ≡ false
+
+pub record IsNewOne {R : Type 0} (input : Watched (Peeked R)) : Type 0 where
+  pub untouched : is_untouched (device_of input)
+  pub fresh : IsSound input
+
+pub record AreNewTwo {R : Type 0} (inputs : BySide (Watched R)) : Type 0 where
+  pub a : IsSound inputs.a
+  pub b : IsSound inputs.b
+
+-- ---- of all arrivals that a run takes
+
+-- the times of these arrivals, of which the newest is the first, don't go back
+abbrev pub DontGoBack : List Arrival → Type 0
+DontGoBack [] = Unit {0}
+DontGoBack (x ∷ past) = (latest_in frames past ≤ x.time) × DontGoBack past

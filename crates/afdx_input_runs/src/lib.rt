@@ -1,0 +1,30 @@
+//! Runs over an input, whatever it is: a list, a recording, or two recordings at once.
+//!
+//! Its tests are in `afdx_test_parts`.
+#![tactic(auto)]
+
+mod arrivals;
+mod input_run;
+pub mod laws;
+mod listing;
+mod over;
+mod over_roles;
+mod read_pair;
+mod reading;
+mod recording_run;
+mod seeing;
+mod seen;
+mod seen_frames;
+mod seen_run;
+mod two_lists;
+mod two_lists_run;
+
+pub use arrivals::Arrivals;
+pub use input_run::{InputCount, run_input};
+pub use listing::{list_pair, list_recording};
+pub use over::Input;
+pub use reading::Reading;
+pub use recording_run::{run_pair, run_recording};
+pub use seen::Seen;
+pub use seen_frames::{AsLists, SeenCount, SeenFrames};
+pub use two_lists_run::run_two_lists;

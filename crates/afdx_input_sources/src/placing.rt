@@ -1,0 +1,123 @@
+//! The places that options say, at the switches that a configuration describes.
+
+ghost use Rattle.std.specs.Prelude.{◌≡◌, ◌<◌, IfSome, length, map, option_map, string_bytes, true, false};
+ghost use Rattle.afdx_config.specs.declared.describing.Described.{Described as Configuration};
+ghost use Rattle.afdx_input_sources.specs.Placing as spec;
+ghost use Rattle.afdx_input_sources.specs.Placing.{OptionsAreMisplaced, OptionsArePlaced};
+ghost use Rattle.afdx_input_sources.specs.Placing.{PairIsMisplaced, PairIsPlaced};
+
+use crate::becoming::RecordingOptions;
+use crate::pair_options::PairOptions;
+use crate::places::Place;
+use afdx_config::{Described, SwitchId, Switches};
+use afdx_frame::Side;
+
+/// Whether no cable is at this port of a switch, if it is said.
+fn is_free(switches: &Switches, switch: SwitchId, port: Option<u8>) -> bool
+    requires { switch.0 < length switches.now }
+    ensures { result ≡ spec.is_free switches.now switch.0 port }
+{
+    match port {
+        Some(port) => switches.far_end(switch, port).is_none(),
+        None => true,
+    }
+}
+
+/// A switch and, if it is said, a port of it, unless a cable is there.
+fn at_switch(switches: &Switches, side: Side, port: Option<u8>, switch: SwitchId) -> Option<Place>
+    requires { switch.0 < length switches.now }
+    ensures { result ≡ spec.at_switch switches.now side port switch.0 }
+{
+    if is_free(switches, switch, port) {
+        Some(Place::AtSwitch(side, switch.0, port))
+    } else {
+        None
+    }
+}
+
+/// The switch whose name has this number.
+fn switch_by(switches: &Switches, names: &[String], number: u16) -> Option<SwitchId>
+    ensures place { option_map (λ k. k.0) result
+        ≡ spec.switch_by switches.now (map string_bytes names.now) number }
+    ensures known { IfSome result (λ k. k.0 < length switches.now) }
+{
+    let name = names.get(usize::from(number))?;
+    switches.named(name.as_str())
+}
+
+/// A place at one of several switches, if it is one.
+fn place_among(switches: &Switches, names: &[String], place: Place) -> Option<Place>
+    ensures { result ≡ spec.place_among switches.now (map string_bytes names.now) place }
+{
+    match place {
+        Place::LeftOut | Place::OnSide(_) => Some(place),
+        Place::AtPort(_, _) | Place::Left(_, _) => None,
+        Place::AtNamed(side, number, port) => {
+            let switch = switch_by(switches, names, number)?;
+            at_switch(switches, side, port, switch)
+        }
+        Place::AtSwitch(side, switch, port) => {
+            if usize::from(switch) < switches.count() {
+                at_switch(switches, side, port, SwitchId(switch))
+            } else {
+                None
+            }
+        }
+    }
+}
+
+/// A place where there is one switch on a side, if it is one.
+fn place_at_one(place: Place) -> Option<Place>
+    ensures { result ≡ spec.place_at_one place }
+{
+    match place {
+        Place::LeftOut | Place::OnSide(_) | Place::AtPort(_, _) | Place::Left(_, _) => Some(place),
+        Place::AtNamed(_, _, _) | Place::AtSwitch(_, _, _) => None,
+    }
+}
+
+/// A place in a configuration, if it is one there.
+pub(crate) fn place_in(described: &Described, names: &[String], place: Place) -> Option<Place>
+    ensures { result ≡ spec.place_in described.now (map string_bytes names.now) place }
+{
+    match described {
+        Described::One(_) => place_at_one(place),
+        Described::Several(switches) => place_among(switches, names, place),
+    }
+}
+
+/// Options that say where frames came in.
+pub trait Placing {
+    /// The places of the first are some in a configuration, and they are those of the second.
+    ghost ArePlaced: { Configuration → Self → Self → Type 0 };
+
+    /// One of them is none there.
+    ghost AreNotPlaced: { Configuration → Self → Type 0 };
+
+    /// Puts each place where it is in a configuration. False: one is none there. Where there is one
+    /// switch on a side, that is one with a name; where there are several, a port without a name, a
+    /// name that no switch has, a port with a cable, or one where frames left.
+    fn place_in(&mut self, described: &Described) -> bool
+        ensures placed { result ≡ true → ArePlaced described.now self.old self.new }
+        ensures misplaced { result ≡ false → AreNotPlaced described.now self.old };
+}
+
+impl Placing for RecordingOptions {
+    ghost ArePlaced = { OptionsArePlaced };
+
+    ghost AreNotPlaced = { OptionsAreMisplaced };
+
+    fn place_in(&mut self, described: &Described) -> bool {
+        self.interfaces.place_in(described)
+    }
+}
+
+impl Placing for PairOptions {
+    ghost ArePlaced = { PairIsPlaced };
+
+    ghost AreNotPlaced = { PairIsMisplaced };
+
+    fn place_in(&mut self, described: &Described) -> bool {
+        self.interfaces.a.place_in(described) && self.interfaces.b.place_in(described)
+    }
+}

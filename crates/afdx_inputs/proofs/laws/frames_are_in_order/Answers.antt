@@ -1,5 +1,0 @@
-use Rattle.afdx_inputs.proofs.JoinLawLemmas.{in-order}
-use Rattle.afdx_inputs.proofs.laws.frames_are_in_order.Goals as goal
-
-pub returns : goal.returns
-returns c = in-order

@@ -1,0 +1,9 @@
+pub mod SentLaws
+pub mod Stops
+pub mod EndToEnd
+pub mod Merged
+pub mod OneSide
+pub mod Several
+pub mod Leaving
+pub mod Recorded
+pub mod Laws

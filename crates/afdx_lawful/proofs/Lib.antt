@@ -1,0 +1,11 @@
+pub mod RowLemmas
+pub mod CleanLemmas
+pub mod AcceptedLemmas
+pub mod PaceLemmas
+pub mod FlawLemmas
+pub mod TrackLemmas
+pub mod RightLemmas
+pub mod BuiltLemmas
+pub mod AccusedLemmas
+pub mod RingLemmas
+pub mod CopyLemmas

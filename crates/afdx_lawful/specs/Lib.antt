@@ -1,0 +1,13 @@
+pub mod Sources
+pub mod Flaws
+pub mod Alone
+pub mod Partners
+pub mod Judged
+pub mod Worked
+pub mod Accepted
+pub mod Ranges
+pub mod Limits
+pub mod Paces
+pub mod Tracks
+pub mod Right
+pub mod Rings

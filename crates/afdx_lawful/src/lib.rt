@@ -1,0 +1,18 @@
+//! Whether a recorded system sent as it may: laws over definitions, and what is
+//! found of a frame by what came before it.
+//!
+//! A source is one link, and the system that sends it, on both networks.
+#![tactic(auto)]
+
+mod copies;
+mod finding;
+mod flaws;
+mod late;
+pub mod laws;
+mod limits;
+mod pace;
+mod partners;
+mod track;
+mod waits;
+
+pub use finding::{Finding, Flaw};

@@ -1,0 +1,20 @@
+//! The frames of a side that wait for their copies.
+
+ghost use Rattle.std.specs.Prelude.{◌≡◌, ◌≤◌};
+ghost use Rattle.afdx_frame.specs.Parts.{number_of_frame};
+ghost use Rattle.afdx_frame.specs.Times.{latest_listed};
+
+use afdx_conform::CheckedBytes;
+
+/// A frame that waits for its copy: its line, its time in ns, its sequence number, its bytes, and
+/// whether nothing was found of it when it came.
+#[derive(Debug, Drop)]
+pub(crate) struct Waits {
+    pub line: u64,
+    pub time: u64,
+    pub number: u8,
+    pub bytes: CheckedBytes,
+    pub is_quiet: bool,
+    pub ghost listed: { time ≤ latest_listed },
+    pub ghost numbered: { number ≡ number_of_frame bytes },
+}

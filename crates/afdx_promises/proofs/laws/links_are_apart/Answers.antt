@@ -1,5 +1,0 @@
-use Rattle.afdx_promises.proofs.PromiseLemmas.{links-apart}
-use Rattle.afdx_promises.proofs.laws.links_are_apart.Goals as goal
-
-pub returns : goal.returns
-returns c = links-apart

@@ -1,5 +1,0 @@
-use Rattle.afdx_recorded.proofs.LawLemmas.{taken-in-order}
-use Rattle.afdx_recorded.proofs.laws.arrivals_are_taken_in_order.Goals as goal
-
-pub returns : goal.returns
-returns c = taken-in-order

@@ -1,5 +1,0 @@
-use Rattle.afdx_recorded.proofs.LawLemmas.{both-are-in-order}
-use Rattle.afdx_recorded.proofs.laws.arrivals_of_both_are_in_order.Goals as goal
-
-pub returns : goal.returns
-returns c = both-are-in-order

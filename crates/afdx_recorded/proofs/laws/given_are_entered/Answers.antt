@@ -1,5 +1,0 @@
-use Rattle.afdx_recorded.proofs.EnteringLemmas.{given-entered}
-use Rattle.afdx_recorded.proofs.laws.given_are_entered.Goals as goal
-
-pub returns : goal.returns
-returns g c = given-entered g.R.Read.remaining

@@ -1,5 +1,0 @@
-use Rattle.afdx_recorded.proofs.PlacingLemmas.{ArePutUpTo}
-use Rattle.afdx_recorded.proofs.places.Interfaces.place_in.Given as goal
-
-abbrev pub invariant-loop-k : goal.invariant-loop-k
-invariant-loop-k l = ArePutUpTo l.described l.k l.fn.self l.self

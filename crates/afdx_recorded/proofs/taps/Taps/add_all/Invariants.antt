@@ -1,7 +1,0 @@
-use Rattle.afdx_recorded.specs.Places.{place_of}
-use Rattle.afdx_recorded.specs.Tapping.{taps_in}
-use Rattle.afdx_recorded.proofs.TapLemmas.{AreTappedUpTo}
-use Rattle.afdx_recorded.proofs.taps.Taps.add_all.Given as goal
-
-abbrev pub invariant-loop-interface : goal.invariant-loop-interface
-invariant-loop-interface l = AreTappedUpTo (place_of l.interfaces) (taps_in l.fn.self) (taps_in l.self) l.interface

@@ -1,8 +1,0 @@
-use Rattle.std.proofs.Common.{ap, take, drop, ◌-◌}
-use Rattle.afdx_recordings.specs.Holding.{lent}
-use Rattle.afdx_recordings.proofs.held.Held.lent.Goals as goal
-
-pub returns : goal.returns
-unfolding lent
-returns c = ap (λ items. take (c.args.self.now.lent_end - c.args.self.now.lent_start)
-    (drop c.args.self.now.lent_start items)) c.deref.ensures.value

@@ -1,4 +1,0 @@
-//! Laws alone: what a replay tells conforms.
-#![tactic(auto)]
-
-pub mod laws;

@@ -1,6 +1,0 @@
-pub mod Events
-pub mod Text
-pub mod Sent
-pub mod Told
-pub mod Progress
-pub mod Command

@@ -1,5 +1,0 @@
-use Rattle.afdx_words.proofs.SayingLemmas.{other_words}
-use Rattle.afdx_words.proofs.laws.others_say_nothing.Goals as goal
-
-pub returns : goal.returns
-returns c = other_words

@@ -1,5 +1,0 @@
-use Rattle.afdx_words.proofs.OnceLemmas.{word-once}
-use Rattle.afdx_words.proofs.laws.says_one_thing.Goals as goal
-
-pub returns : goal.returns
-returns c = word-once
