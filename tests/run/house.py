@@ -23,6 +23,7 @@
 - A clause has at most 400 characters and eight lines, a function takes at most six values beside
   `self` and has at most 40 lines, a line of a proof has at most 120 columns. Where there still are
   others, there are just as many as is said here (LARGE); fewer are to be said, too.
+- No two crates have a type of one name; crates of tests aside.
 - Each definition of specs/ and each lemma is reached by what a function promises or by a proof, and
   each export of a crate is named by another crate. Where some aren't, SPARE says how many.
 
@@ -65,7 +66,7 @@ MEMORY = {
 # how many are still larger than they may be
 LARGE = {"clauses": 0, "values": 14, "bodies": 2, "lines of proofs": 0}
 # how many may still go
-SPARE = {"definitions that nothing reaches": 0, "exports that no other crate names": 3}
+SPARE = {"definitions that nothing reaches": 0, "exports that no other crate names": 4}
 OF_TWO = ["{1} {0}", "list {0} {1}"]  # the forms of one of two recordings, and of two lists
 SCRIPTS = ["tests/**/*.py", "tests/**/*.sh", "tests/**/*.c", "examples/*.py"]
 SCRIPTS += ["bench/*", "bin/*", "bin/printing/*.py", "bin/lib/*.sh"]
@@ -276,6 +277,18 @@ def large() -> dict[str, list[str]]:
     return found
 
 
+def shared_names() -> list[str]:
+    """Types of one name in two crates; those of tests aside."""
+    form = r"^\s*(?:pub(?:\(crate\))? )?(?:struct|enum|trait) (\w+)"
+    crates: dict[str, set[str]] = {}
+    for path in sources("crates/*/src/**/*.rt"):
+        crate = path.relative_to(CRATES).parts[0]
+        if not crate.startswith("afdx_test_"):
+            for name in re.findall(form, text_of(path), re.M):
+                crates.setdefault(name, set()).add(crate)
+    return [f"{name}: {sorted(has)}" for name, has in sorted(crates.items()) if len(has) > 1]
+
+
 def spare() -> dict[str, list[str]]:
     """What may go, by its kind."""
     alone = [f"{place.file}.{place.name}" for place in reached.unreached(TOP)]
@@ -310,6 +323,7 @@ def main() -> int:
         "columns of proofs": wide_lines(PROOF_COLUMNS, "crates/*/proofs/**/*.antt"),
         "columns of scripts": wide_lines(COLUMNS, *SCRIPTS),
         "sizes of clauses, functions and proofs": other_counts(large(), LARGE, "LARGE"),
+        "names of types": shared_names(),
         "what nothing names": other_counts(spare(), SPARE, "SPARE"),
     }
     for name, faults in checks.items():

@@ -20,7 +20,7 @@ use Rattle.afdx_network.specs.declared.network.Network.{Network}
 use Rattle.afdx_cascade.specs.SwitchEvents.{Plan, SwitchEvent, at_switch}
 use Rattle.afdx_cascade.specs.Scan.{IsFirstFrom, by_side, earlier_of, first_with}
 use Rattle.afdx_cascade.specs.Found.{AllStand}
-use Rattle.afdx_cascade.specs.declared.scan.First.{First}
+use Rattle.afdx_cascade.specs.declared.scan.FirstTurn.{FirstTurn}
 
 -- ---- a switch's number is that of its next turn
 
@@ -59,13 +59,13 @@ head-comes t n events order B st tells small =
 
 -- ---- which one is found
 
-pick-side : (s r : Side) (a g : First) → (by_side s r a g ≡ a) ⊎ (by_side s r a g ≡ g)
+pick-side : (s r : Side) (a g : FirstTurn) → (by_side s r a g ≡ a) ⊎ (by_side s r a g ≡ g)
 pick-side A A a g = inl refl
 pick-side A B a g = inl refl
 pick-side B A a g = inr refl
 pick-side B B a g = inl refl
 
-pick : (a g : First) → (earlier_of a (Some g) ≡ a) ⊎ (earlier_of a (Some g) ≡ g)
+pick : (a g : FirstTurn) → (earlier_of a (Some g) ≡ a) ⊎ (earlier_of a (Some g) ≡ g)
 pick a g = by (nat_lt g.order a.order) (nat_lt a.order g.order)
   where
     by : (p q : Bool) → ((if p then g else if q then a else by_side a.side g.side a g) ≡ a)
@@ -75,32 +75,32 @@ pick a g = by (nat_lt g.order a.order) (nat_lt a.order g.order)
     by false false = pick-side a.side g.side a g
 
 -- and it has the less number
-less : (a g : First) → ((earlier_of a (Some g)).order ≤ a.order)
+less : (a g : FirstTurn) → ((earlier_of a (Some g)).order ≤ a.order)
     × ((earlier_of a (Some g)).order ≤ g.order)
 less a g = elim (cases_lt g.order a.order) [
   | inl lt ↦ (let is : earlier_of a (Some g) ≡ g = rw (nat_lt-true g.order a.order lt) refl in
-      let o = ap (λ (x : First). x.order) is in (omega (arith, o, lt), omega (arith, o)))
+      let o = ap (λ (x : FirstTurn). x.order) is in (omega (arith, o, lt), omega (arith, o)))
   | inr le ↦ elim (cases_lt a.order g.order) [
     | inl lt ↦ (let is : earlier_of a (Some g) ≡ a =
         rw (nat_lt-false g.order a.order le, nat_lt-true a.order g.order lt) refl in
-        let o = ap (λ (x : First). x.order) is in (omega (arith, o), omega (arith, o, lt)))
+        let o = ap (λ (x : FirstTurn). x.order) is in (omega (arith, o), omega (arith, o, lt)))
     | inr ge ↦ elim (pick a g) [
-      | inl is ↦ (let o = ap (λ (x : First). x.order) is in
+      | inl is ↦ (let o = ap (λ (x : FirstTurn). x.order) is in
           (omega (arith, o), omega (arith, o, le, ge)))
-      | inr is ↦ (let o = ap (λ (x : First). x.order) is in
+      | inr is ↦ (let o = ap (λ (x : FirstTurn). x.order) is in
           (omega (arith, o, le, ge), omega (arith, o)))
     ]
   ]
 ]
 
-some-same : (a b : First) → Some a ≡ Some b → a ≡ b
+some-same : (a b : FirstTurn) → Some a ≡ Some b → a ≡ b
 some-same a b e = cc e
 
 -- ---- the scan
 
 -- it is the next turn of its switch
 pub record FirstComes (c : Plan) (so_far : List SwitchEvent) (at : ℕ) (ns : List Network)
-    (f : First) : Type 0 where
+    (f : FirstTurn) : Type 0 where
   pub place : ℕ
   pub below : place < length ns
   pub switch_is : f.switch ≡ at + place
@@ -109,7 +109,7 @@ pub record FirstComes (c : Plan) (so_far : List SwitchEvent) (at : ℕ) (ns : Li
       (calls_on f.side (at_switch f.switch so_far) 0) gone
   pub order_is : f.order ≡ order_of (due_at gone.turn)
 
-comes-from : (c : Plan) (so_far : List SwitchEvent) (at : ℕ) (ns : List Network) (f : First)
+comes-from : (c : Plan) (so_far : List SwitchEvent) (at : ℕ) (ns : List Network) (f : FirstTurn)
     → ((j : ℕ) (n : Network) → slice_get ns j ≡ Some n
     → network.StandsFor (c.tables (at + j)) n (at_switch (at + j) so_far))
     → f.order < order_without_turn → IsFirstFrom at ns (Some f) → FirstComes c so_far at ns f
@@ -119,9 +119,9 @@ comes-from c so_far at (n ∷ ns) f each small (order, side, None, tells, rest, 
   where
     own : f ≡ first_with order at side → FirstComes c so_far at (n ∷ ns) f
     own is =
-        let o : f.order ≡ order = ap (λ (x : First). x.order) is in
-        let k : f.switch ≡ at + 0 = ap (λ (x : First). x.switch) is ∙ omega arith in
-        let s : f.side ≡ side = ap (λ (x : First). x.side) is in
+        let o : f.order ≡ order = ap (λ (x : FirstTurn). x.order) is in
+        let k : f.switch ≡ at + 0 = ap (λ (x : FirstTurn). x.switch) is ∙ omega arith in
+        let s : f.side ≡ side = ap (λ (x : FirstTurn). x.side) is in
         let comes : Comes (c.tables f.switch) f.side (at_switch f.switch so_far) f.order =
         subst (λ j. Comes (c.tables j) f.side (at_switch j so_far) f.order) (sym k)
         (subst (λ z. Comes (c.tables (at + 0)) z (at_switch (at + 0) so_far) f.order) (sym s)
@@ -149,9 +149,9 @@ comes-from c so_far at (n ∷ ns) f each small (order, side, Some g, tells, rest
   where
     own : f ≡ first_with order at side → FirstComes c so_far at (n ∷ ns) f
     own is =
-        let o : f.order ≡ order = ap (λ (x : First). x.order) is in
-        let k : f.switch ≡ at + 0 = ap (λ (x : First). x.switch) is ∙ omega arith in
-        let s : f.side ≡ side = ap (λ (x : First). x.side) is in
+        let o : f.order ≡ order = ap (λ (x : FirstTurn). x.order) is in
+        let k : f.switch ≡ at + 0 = ap (λ (x : FirstTurn). x.switch) is ∙ omega arith in
+        let s : f.side ≡ side = ap (λ (x : FirstTurn). x.side) is in
         let comes : Comes (c.tables f.switch) f.side (at_switch f.switch so_far) f.order =
         subst (λ j. Comes (c.tables j) f.side (at_switch j so_far) f.order) (sym k)
         (subst (λ z. Comes (c.tables (at + 0)) z (at_switch (at + 0) so_far) f.order) (sym s)
@@ -171,7 +171,7 @@ comes-from c so_far at (n ∷ ns) f each small (order, side, Some g, tells, rest
     behind : f ≡ g → (g.order < order_without_turn → FirstComes c so_far (at + 1) ns g)
         → FirstComes c so_far at (n ∷ ns) f
     behind is tail-comes =
-        let o : f.order ≡ g.order = ap (λ (x : First). x.order) is in
+        let o : f.order ≡ g.order = ap (λ (x : FirstTurn). x.order) is in
         let tail = tail-comes (omega (arith, o, small)) in
         let whole : FirstComes c so_far (at + 1) ns f =
         subst (λ x. FirstComes c so_far (at + 1) ns x) (sym is) tail in
@@ -184,7 +184,7 @@ comes-from c so_far at (n ∷ ns) f each small (order, side, Some g, tells, rest
           order_is = whole.order_is;
         }
 
-pub scan-comes : (c : Plan) (so_far : List SwitchEvent) (ns : List Network) (f : First)
+pub scan-comes : (c : Plan) (so_far : List SwitchEvent) (ns : List Network) (f : FirstTurn)
     → AllStand c ns so_far
     → IsFirstFrom 0 ns (Some f) → f.order < order_without_turn → FirstComes c so_far 0 ns f
 scan-comes c so_far ns f all is small =
@@ -193,19 +193,19 @@ scan-comes c so_far ns f all is small =
     (all.each j n at)) small is
 
 -- each switch has a number, which is no less
-pub record IsTold (n : Network) (f : First) : Type 0 where
+pub record IsTold (n : Network) (f : FirstTurn) : Type 0 where
   pub order : ℕ
   pub side : Side
   pub tells : TellsOrder n order side
   pub least : f.order ≤ order
 
-pub told-from : (at : ℕ) (ns : List Network) (f : First) → IsFirstFrom at ns (Some f)
+pub told-from : (at : ℕ) (ns : List Network) (f : FirstTurn) → IsFirstFrom at ns (Some f)
     → (j : ℕ) (n : Network)
     → slice_get ns j ≡ Some n → IsTold n f
 told-from at [] f is j n here = absurd is
 told-from at (m ∷ ns) f (order, side, None, tells, rest, same) zero n here =
     let o : f.order ≡ order =
-    ap (λ (x : First). x.order) (some-same f (first_with order at side) same) in
+    ap (λ (x : FirstTurn). x.order) (some-same f (first_with order at side) same) in
     let there : m ≡ n = cc here in
     subst (λ z. IsTold z f) there
     (record { order = order; side = side; tells = tells; least = omega (arith, o) })
@@ -214,7 +214,7 @@ told-from at (m ∷ (x ∷ xs)) f (order, side, None, tells, rest, same) (suc j)
     absurd (cc (rest.5))
 told-from at (m ∷ ns) f (order, side, Some g, tells, rest, same) zero n here =
     let o : f.order ≡ (earlier_of (first_with order at side) (Some g)).order =
-    ap (λ (x : First). x.order)
+    ap (λ (x : FirstTurn). x.order)
     (some-same f (earlier_of (first_with order at side) (Some g)) same) in
     let le = (less (first_with order at side) g).0 in
     let there : m ≡ n = cc here in
@@ -222,7 +222,7 @@ told-from at (m ∷ ns) f (order, side, Some g, tells, rest, same) zero n here =
     (record { order = order; side = side; tells = tells; least = omega (arith, o, le) })
 told-from at (m ∷ ns) f (order, side, Some g, tells, rest, same) (suc j) n here =
     let o : f.order ≡ (earlier_of (first_with order at side) (Some g)).order =
-    ap (λ (x : First). x.order)
+    ap (λ (x : FirstTurn). x.order)
     (some-same f (earlier_of (first_with order at side) (Some g)) same) in
     let le = (less (first_with order at side) g).1 in
     let tail = told-from (at + 1) ns g rest j n here in
@@ -245,7 +245,7 @@ after-it time order (Some d) is late = by d.too_old is late
     by true e l = omega (arith, e, l)
     by false e l = omega (arith, e, l)
 
-pub quiet-then : (n : Network) (f : First) (time : ℕ) → IsTold n f → 2 * time < f.order
+pub quiet-then : (n : Network) (f : FirstTurn) (time : ℕ) → IsTold n f → 2 * time < f.order
     → network.IsQuiet n time
 quiet-then n f time told late = record {
   on_a = (told.tells.tells_a.tells.quiet time).1

@@ -18,7 +18,7 @@ use Rattle.afdx_cascade.specs.Due.{OnCable, IsRing}
 use Rattle.afdx_cascade.specs.Runs.{IsDue}
 use Rattle.afdx_cascade.specs.Scan.{IsFirstFrom}
 use Rattle.afdx_cascade.specs.Keeping.{Keeps, IsEarly}
-use Rattle.afdx_cascade.specs.declared.scan.First.{First}
+use Rattle.afdx_cascade.specs.declared.scan.FirstTurn.{FirstTurn}
 use Rattle.afdx_cascade.proofs.NumberLemmas.{nothing-next}
 use Rattle.afdx_cascade.proofs.MoreLemmas.{there-or-past}
 use Rattle.afdx_cascade.proofs.RingLemmas.{no-frames}
@@ -59,7 +59,7 @@ module _ (t : Rows) (events : List Event) (side : Side) (h : switch.SwitchHistor
   quiet-done None until port s late after limit done low high next =
       none-comes t events side h None port s (omega arith) tt done low high next
 
-turn-done : (t : Rows) (n : Network) (f : First) (events : List Event) (until : ℕ)
+turn-done : (t : Rows) (n : Network) (f : FirstTurn) (events : List Event) (until : ℕ)
     → network.StandsFor t n events → IsTold n f → network.IsQuiet n until
     → 1200000000000000 ≤ until → (side : Side) (port : ℕ) (s : Turn HeldFrame) → 1 ≤ port
     → port ≤ 24 → network.IsNextOn t events side port s → ⊥
@@ -75,7 +75,7 @@ turn-done t n f events until st told quiet late B port s low high next =
     tells.tells.limit (λ p l m. tells.tells.all_done t B h p st.on_b l m) low high next
 
 pub all-done : (c : Plan) (networks : List Network) (time until : ℕ) (ring : List OnCable)
-    (so_far : List SwitchEvent) (f : First) → Keeps c networks time ring so_far
+    (so_far : List SwitchEvent) (f : FirstTurn) → Keeps c networks time ring so_far
     → IsFirstFrom 0 networks (Some f) → ring ≡ [] → 1200000000000000 ≤ until
     → ((k : ℕ) (n : Network) → slice_get networks k ≡ Some n → network.IsQuiet n until)
     → (place : List ℕ) (g : SwitchEvent) → IsDue c so_far place g → ⊥

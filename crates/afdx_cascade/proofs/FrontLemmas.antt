@@ -28,7 +28,7 @@ use Rattle.afdx_cascade.specs.Due.{OnCable, IsRing, frame_place}
 use Rattle.afdx_cascade.specs.Found.{AllStand, FindsLeast}
 use Rattle.afdx_cascade.specs.Keeping.{Keeps, FrontCanArrive, FrontKeeps, LineKeeps, StartKeeps}
 use Rattle.afdx_cascade.specs.Scan.{IsFirstFrom}
-use Rattle.afdx_cascade.specs.declared.scan.First.{First}
+use Rattle.afdx_cascade.specs.declared.scan.FirstTurn.{FirstTurn}
 use Rattle.afdx_cascade.proofs.BehindLemmas.{arrival-behind}
 use Rattle.afdx_cascade.proofs.ComesLemmas.{told-from, quiet-then}
 use Rattle.afdx_cascade.proofs.RingLemmas.{frame-next, no-frames}
@@ -70,7 +70,7 @@ ends-by : (time : ℕ) (zs : List OnCable) → AllByRecursion (λ z. z.turn.end 
 ends-by time [] all = tt
 ends-by time (z ∷ zs) all = ((let e = all.0 in omega (arith, e)), ends-by time zs all.1)
 
-least-late : (c : Plan) (so_far : List SwitchEvent) (f : First) (time : ℕ)
+least-late : (c : Plan) (so_far : List SwitchEvent) (f : FirstTurn) (time : ℕ)
     → (found : FindsLeast c so_far f)
     → 2 * time < f.order → (j : ℕ) (side : Side) → 2 * time < found.order j side
 least-late c so_far f time found late j side =
@@ -119,7 +119,7 @@ later-then c so_far k a time later quiet j side port s low high next = elim (cas
 
 -- where no slot is still to end at its time the front frame comes next
 pub front-first : (c : Plan) (so_far : List SwitchEvent) (networks : List Network) (time : ℕ) (r : OnCable)
-    (rest : List OnCable) (f : First) (to : End) → Keeps c networks time (r ∷ rest) so_far
+    (rest : List OnCable) (f : FirstTurn) (to : End) → Keeps c networks time (r ∷ rest) so_far
     → IsFirstFrom 0 networks (Some f) → 2 * time < f.order → c.far_end r.from.switch r.from.port ≡ Some to
     → (lines : List Line) → IsBeforeLine (frame_place r) lines
     → IsFirstDue c so_far lines (arriving c so_far to.switch (brought r.side to.port r.turn))

@@ -15,7 +15,7 @@ use Rattle.afdx_network.specs.Order.{side_number}
 use Rattle.afdx_network.specs.declared.network.Network.{Network}
 use Rattle.afdx_cascade.specs.Keys.{AreKeys, AreOthersSame, IsKey, IsLeast, key_of}
 use Rattle.afdx_cascade.specs.Scan.{IsFirstFrom, by_side, earlier_of, first_with}
-use Rattle.afdx_cascade.specs.declared.scan.First.{First}
+use Rattle.afdx_cascade.specs.declared.scan.FirstTurn.{FirstTurn}
 
 -- ---- a key
 
@@ -29,7 +29,7 @@ side-same B B e = refl
 side-same A B e = absurd (cc e)
 side-same B A e = absurd (cc e)
 
-abbrev key-first : First → ℕ
+abbrev key-first : FirstTurn → ℕ
 key-first f = key_of f.order f.side f.switch
 
 -- the order counts first
@@ -40,7 +40,7 @@ order-before o p w v s r lt low =
 -- ---- the first of some switches
 
 record Found (at : ℕ) (ns : List Network) (keys : List ℕ) : Type 0 where
-  pub first : First
+  pub first : FirstTurn
   pub is : IsFirstFrom at ns (Some first)
   pub low : at ≤ first.switch
   pub high : first.switch < at + length ns
@@ -165,7 +165,7 @@ found at n (m ∷ ms) (key ∷ keys) few all =
 -- ---- the least key
 
 pub record LeastIs (ns : List Network) (least : ℕ) : Type 0 where
-  pub first : First
+  pub first : FirstTurn
   pub is : IsFirstFrom 0 ns (Some first)
   pub within : first.switch < length ns
   pub order : least / 64 ≡ first.order
@@ -201,7 +201,7 @@ pub first-is : (ns : List Network) (least number : ℕ) (side : Side) → LeastI
     → IsFirstFrom 0 ns (Some (record { order = least / 64; switch = least % 32; side = side }))
 first-is ns least number side l is side_is =
     let same : side ≡ l.first.side = side-same side l.first.side (side_is ∙ is ∙ l.side) in
-    subst (λ (f : First). IsFirstFrom 0 ns (Some f))
+    subst (λ (f : FirstTurn). IsFirstFrom 0 ns (Some f))
     (sym (rw (l.order, l.switch, same) refl)) l.is
 
 -- ---- the keys of networks

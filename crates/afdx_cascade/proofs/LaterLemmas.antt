@@ -25,13 +25,13 @@ use Rattle.afdx_cascade.specs.Runs.{event_at}
 use Rattle.afdx_cascade.specs.Due.{OnCable}
 use Rattle.afdx_cascade.specs.Found.{FindsLeast}
 use Rattle.afdx_cascade.specs.Standing.{Stands}
-use Rattle.afdx_cascade.specs.declared.scan.First.{First}
+use Rattle.afdx_cascade.specs.declared.scan.FirstTurn.{FirstTurn}
 use Rattle.afdx_cascade.proofs.BehindLemmas.{next-later}
 use Rattle.afdx_cascade.proofs.MoreLemmas.{at-same, at-other}
 
 -- ---- the turn that is given is the first
 
-pub record IsThat (f : First) (d : Departure) : Type 0 where
+pub record IsThat (f : FirstTurn) (d : Departure) : Type 0 where
   pub side_is : d.side ≡ f.side
   pub order_is : f.order ≡ order_of (due_at d.turn)
 
@@ -46,7 +46,7 @@ same-sides B B k le (inr h) = refl
 same-sides A B k le (inr h) = absurd (not-back k h)
 same-sides B A k le (inr h) = absurd (omega (arith, le))
 
-pub that-one : (c : Plan) (so_far : List SwitchEvent) (f : First) (d : Departure)
+pub that-one : (c : Plan) (so_far : List SwitchEvent) (f : FirstTurn) (d : Departure)
     → (found : FindsLeast c so_far f)
     → (gone : PortTurn) → IsNextOf (c.tables f.switch) f.side
     (calls_on f.side (at_switch f.switch so_far) 0) gone

@@ -11,7 +11,7 @@ use Rattle.afdx_network.specs.Order.{is_below, side_number}
 use Rattle.afdx_network.specs.declared.network.Network.{Network}
 use Rattle.afdx_network.proofs.OrderLemmas.{below_first, below_next, below_trans}
 use Rattle.afdx_cascade.specs.Scan.{IsFirstFrom, by_side, earlier_of, first_with}
-use Rattle.afdx_cascade.specs.declared.scan.First.{First}
+use Rattle.afdx_cascade.specs.declared.scan.FirstTurn.{FirstTurn}
 use Rattle.afdx_cascade.proofs.NumberLemmas.{beyond, told, number-small}
 
 -- ---- the least of them
@@ -23,7 +23,7 @@ Cases at order side place told_order other j =
     ⊎ ((order ≡ told_order)
     × (is_below (side_number side ∷ (at + place) ∷ []) (side_number other ∷ (at + j) ∷ []) ≡ true)))
 
-pub record Least (at : ℕ) (ns : List Network) (f : First)
+pub record Least (at : ℕ) (ns : List Network) (f : FirstTurn)
     (is : IsFirstFrom at ns (Some f)) : Type 0 where
   pub place : ℕ
   pub switch_is : f.switch ≡ at + place
@@ -132,7 +132,7 @@ head-before at order side f_order place f_side before j other number place_numbe
 -- the first of the head and of the first behind
 picked : (at : ℕ) (n : Network) (ns : List Network) (order : ℕ) (side : Side)
     (tells : TellsOrder n order side)
-    (g f : First) (rest : IsFirstFrom (at + 1) ns (Some g)) (same : Some f
+    (g f : FirstTurn) (rest : IsFirstFrom (at + 1) ns (Some g)) (same : Some f
     ≡ Some (earlier_of (first_with order at side) (Some g)))
     → Least (at + 1) ns g rest → Least at (n ∷ ns) f (order, side, Some g, tells, rest, same)
 picked at n ns order side tells g f rest same tail =
@@ -145,7 +145,7 @@ picked at n ns order side tells g f rest same tail =
       ]
     ]
   where
-    some-same : (a b : First) → Some a ≡ Some b → a ≡ b
+    some-same : (a b : FirstTurn) → Some a ≡ Some b → a ≡ b
     some-same a b e = cc e
 
     pick-other : g.order < order → earlier_of (first_with order at side) (Some g) ≡ g
@@ -176,23 +176,23 @@ picked at n ns order side tells g f rest same tail =
         → Least at (n ∷ ns) f (order, side, Some g, tells, rest, same)
     other-first is before = record {
       place = suc tail.place;
-      switch_is = (let s : f.switch ≡ g.switch = ap (λ (x : First). x.switch) is in
+      switch_is = (let s : f.switch ≡ g.switch = ap (λ (x : FirstTurn). x.switch) is in
           let t = tail.switch_is in omega (arith, s, t));
-      order_is = ap (λ (x : First). x.order) is ∙ tail.order_is
-          ∙ ap (λ (x : First). tail-number tail.place x.side) (sym is);
-      small = (let o : f.order ≡ g.order = ap (λ (x : First). x.order) is in let t = tail.small in
+      order_is = ap (λ (x : FirstTurn). x.order) is ∙ tail.order_is
+          ∙ ap (λ (x : FirstTurn). tail-number tail.place x.side) (sym is);
+      small = (let o : f.order ≡ g.order = ap (λ (x : FirstTurn). x.order) is in let t = tail.small in
           omega (arith, o, t));
       least = λ j other. each j other;
     }
       where
         each : (j : ℕ) (other : Side)
             → Cases at f.order f.side (suc tail.place) (number-of j other) other j
-        each zero other = subst (λ (x : First).
+        each zero other = subst (λ (x : FirstTurn).
             Cases at x.order x.side (suc tail.place) (number-of 0 other) other 0) (sym is)
             (subst (λ m. Cases at g.order g.side (suc tail.place) m other 0)
             (sym (head-number other))
             (head-other at n order side tells g.order tail.place g.side before other))
-        each (suc j) other = subst (λ (x : First).
+        each (suc j) other = subst (λ (x : FirstTurn).
             Cases at x.order x.side (suc tail.place) (number-of (suc j) other) other (suc j))
             (sym is)
             (tail-cases at tail.place j g.order g.side other (tail-number j other)
@@ -204,10 +204,10 @@ picked at n ns order side tells g f rest same tail =
         → Least at (n ∷ ns) f (order, side, Some g, tells, rest, same)
     own-first is before = record {
       place = 0;
-      switch_is = ap (λ (x : First). x.switch) is ∙ omega arith;
-      order_is = ap (λ (x : First). x.order) is ∙ order-is side refl
-          ∙ ap (λ (x : First). number-of 0 x.side) (sym is);
-      small = (let o : f.order ≡ order = ap (λ (x : First). x.order) is in
+      switch_is = ap (λ (x : FirstTurn). x.switch) is ∙ omega arith;
+      order_is = ap (λ (x : FirstTurn). x.order) is ∙ order-is side refl
+          ∙ ap (λ (x : FirstTurn). number-of 0 x.side) (sym is);
+      small = (let o : f.order ≡ order = ap (λ (x : FirstTurn). x.order) is in
           let a = number-small n.switches.a tells.a tells.tells_a in let le = tells.first.least_a in
           omega (arith, o, a, le));
       least = λ j other. each j other;
@@ -218,11 +218,11 @@ picked at n ns order side tells g f rest same tail =
         order-is B e = (tells.first.at_b e).0 ∙ ap (number-of 0) (sym e)
 
         each : (j : ℕ) (other : Side) → Cases at f.order f.side 0 (number-of j other) other j
-        each zero other = subst (λ (x : First).
+        each zero other = subst (λ (x : FirstTurn).
             Cases at x.order x.side 0 (number-of 0 other) other 0) (sym is)
             (subst (λ m. Cases at order side 0 m other 0) (sym (head-number other))
             (head-own at n order side tells other))
-        each (suc j) other = subst (λ (x : First).
+        each (suc j) other = subst (λ (x : FirstTurn).
             Cases at x.order x.side 0 (number-of (suc j) other) other (suc j)) (sym is)
             (head-before at order side g.order tail.place g.side before j other
             (tail-number j other)
@@ -246,15 +246,15 @@ picked at n ns order side tells g f rest same tail =
             ∙ rw (i, h) refl) (inr (sym e, h, i))
 
 alone : (at : ℕ) (n : Network) (order : ℕ) (side : Side) (tells : TellsOrder n order side)
-    (f : First)
+    (f : FirstTurn)
     (rest : IsFirstFrom (at + 1) [] None) (same : Some f ≡ Some (first_with order at side))
     → Least at (n ∷ []) f (order, side, None, tells, rest, same)
 alone at n order side tells f rest same = record {
   place = 0;
-  switch_is = ap (λ (x : First). x.switch) is ∙ omega arith;
-  order_is = ap (λ (x : First). x.order) is ∙ order-is side refl
-      ∙ ap (λ (x : First). number-of 0 x.side) (sym is);
-  small = (let o : f.order ≡ order = ap (λ (x : First). x.order) is in
+  switch_is = ap (λ (x : FirstTurn). x.switch) is ∙ omega arith;
+  order_is = ap (λ (x : FirstTurn). x.order) is ∙ order-is side refl
+      ∙ ap (λ (x : FirstTurn). number-of 0 x.side) (sym is);
+  small = (let o : f.order ≡ order = ap (λ (x : FirstTurn). x.order) is in
       let a = number-small n.switches.a tells.a tells.tells_a in let le = tells.first.least_a in
       omega (arith, o, a, le));
   least = λ j other. each j other;
@@ -275,15 +275,15 @@ alone at n order side tells f rest same = record {
     order-is B e = (tells.first.at_b e).0 ∙ ap (number-of 0) (sym e)
 
     each : (j : ℕ) (other : Side) → Cases at f.order f.side 0 (number-of j other) other j
-    each zero other = subst (λ (x : First). Cases at x.order x.side 0 (number-of 0 other) other 0)
+    each zero other = subst (λ (x : FirstTurn). Cases at x.order x.side 0 (number-of 0 other) other 0)
         (sym is)
         (subst (λ m. Cases at order side 0 m other 0) (sym (head-number other))
         (head-own at n order side tells other))
-    each (suc j) other = inr (inl (let o : f.order ≡ order = ap (λ (x : First). x.order) is in
+    each (suc j) other = inr (inl (let o : f.order ≡ order = ap (λ (x : FirstTurn). x.order) is in
         let a = number-small n.switches.a tells.a tells.tells_a in let le = tells.first.least_a in
         omega (arith, o, a, le)))
 
-pub all-least : (at : ℕ) (ns : List Network) (f : First) (is : IsFirstFrom at ns (Some f))
+pub all-least : (at : ℕ) (ns : List Network) (f : FirstTurn) (is : IsFirstFrom at ns (Some f))
     → Least at ns f is
 all-least at [] f is = absurd is
 all-least at (n ∷ []) f (order, side, None, tells, rest, same) =

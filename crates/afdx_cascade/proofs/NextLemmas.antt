@@ -21,7 +21,7 @@ use Rattle.afdx_cascade.specs.Standing.{Stands}
 use Rattle.afdx_cascade.specs.Turning.{AreInTransit, IsInTransit, CanArrive, ArrivesAt}
 use Rattle.afdx_cascade.specs.declared.told.Brought.{Brought}
 use Rattle.afdx_cascade.specs.declared.cable.InTransit.{InTransit}
-use Rattle.afdx_cascade.specs.declared.scan.First.{First}
+use Rattle.afdx_cascade.specs.declared.scan.FirstTurn.{FirstTurn}
 use Rattle.afdx_cascade.proofs.ComesLemmas.{scan-comes, told-from, quiet-then}
 use Rattle.afdx_cascade.proofs.FrontLemmas.{quiet-at, front-can, front-first, front-keeps}
 use Rattle.afdx_cascade.proofs.LaterLemmas.{given-is}
@@ -36,7 +36,7 @@ until-more n time at le is = record {
 }
 
 module _ (c : Plan) (networks : List Network) (time : ℕ) (ring : List OnCable)
-    (so_far : List SwitchEvent) (f : First)
+    (so_far : List SwitchEvent) (f : FirstTurn)
     (at : ℕ) (keeps : Keeps c networks time ring so_far) (is : IsFirstFrom 0 networks (Some f))
     (small : f.order < order_without_turn) (low : f.order ≤ 2 * at) (high : 2 * at
     ≤ f.order + 1) where
@@ -131,7 +131,7 @@ front-limit c networks time (r ∷ rest) so_far (w ∷ behind) keeps are v here 
     (elim keeps.soon [ inl none ↦ absurd (cc none) | inr le ↦ omega (arith, end, le) ])
 
 module _ (c : Plan) (networks : List Network) (time : ℕ) (ring : List OnCable)
-    (so_far : List SwitchEvent) (f : First)
+    (so_far : List SwitchEvent) (f : FirstTurn)
     (transit : List InTransit) (keeps : Keeps c networks time ring so_far)
     (is : IsFirstFrom 0 networks (Some f))
     (are : AreInTransit c transit ring) (next : IsFrontNext transit f.order) where
@@ -214,7 +214,7 @@ late-due time order (Some d) is late limit = absurd (by d.too_old is limit)
     by true e l = omega (arith, e, l, late)
     by false e l = omega (arith, e, l, late)
 
-pub quiet-end : (networks : List Network) (f : First) (time : ℕ) → IsFirstFrom 0 networks (Some f)
+pub quiet-end : (networks : List Network) (f : FirstTurn) (time : ℕ) → IsFirstFrom 0 networks (Some f)
     → order_without_turn ≤ f.order → (k : ℕ) (n : Network) → slice_get networks k ≡ Some n
     → network.IsQuiet n time
 quiet-end networks f time is late k n here =
@@ -231,7 +231,7 @@ quiet-end networks f time is late k n here =
           told.tells.tells_b.is (omega (arith, late, le, b)) told.tells.tells_b.tells.limit);
     }
 
-pub quiet-by : (networks : List Network) (f : First) (time at : ℕ) → IsFirstFrom 0 networks (Some f)
+pub quiet-by : (networks : List Network) (f : FirstTurn) (time at : ℕ) → IsFirstFrom 0 networks (Some f)
     → time < at
     → 2 * at ≤ f.order + 1 → (k : ℕ) (n : Network) → slice_get networks k ≡ Some n
     → network.IsQuiet n time

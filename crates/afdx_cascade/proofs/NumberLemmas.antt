@@ -21,7 +21,7 @@ use Rattle.afdx_network.specs.declared.network.Network.{Network}
 use Rattle.afdx_network.proofs.StandsLemmas.{due-least}
 use Rattle.afdx_cascade.specs.SwitchEvents.{Plan, SwitchEvent, at_switch}
 use Rattle.afdx_cascade.specs.Scan.{IsFirstFrom}
-use Rattle.afdx_cascade.specs.declared.scan.First.{First}
+use Rattle.afdx_cascade.specs.declared.scan.FirstTurn.{FirstTurn}
 use Rattle.afdx_cascade.proofs.AcceptedLemmas.{no-entries}
 
 -- ---- the numbers
@@ -31,7 +31,7 @@ abbrev pub beyond : ℕ
 beyond = 4503599627370497
 
 -- the numbers of the switches of two sides
-abbrev pub told : (at : ℕ) (ns : List Network) (r : Option First) → IsFirstFrom at ns r → ℕ → Side → ℕ
+abbrev pub told : (at : ℕ) (ns : List Network) (r : Option FirstTurn) → IsFirstFrom at ns r → ℕ → Side → ℕ
 told at [] r is j side = beyond
 told at (n ∷ ns) r is zero A = is.3.a
 told at (n ∷ ns) r is zero B = is.3.b
@@ -89,7 +89,7 @@ nothing-next t events side port s none next =
     let empty = no-entries t side port in
     cc (subst (λ es. slice_get es s.place ≡ Some s.entry) empty stands)
 
-pub told-least : (c : Plan) (so_far : List SwitchEvent) (at : ℕ) (ns : List Network) (r : Option First)
+pub told-least : (c : Plan) (so_far : List SwitchEvent) (at : ℕ) (ns : List Network) (r : Option FirstTurn)
     (is : IsFirstFrom at ns r)
     → ((j : ℕ) (n : Network) → slice_get ns j ≡ Some n
     → network.StandsFor (c.tables (at + j)) n (at_switch (at + j) so_far))

@@ -21,7 +21,7 @@ use Rattle.afdx_network.specs.Order.{is_below, side_number}
 use Rattle.afdx_network.specs.declared.network.Network.{Network}
 use Rattle.afdx_cascade.specs.SwitchEvents.{Plan, SwitchEvent, at_switch}
 use Rattle.afdx_cascade.specs.Scan.{IsFirstFrom}
-use Rattle.afdx_cascade.specs.declared.scan.First.{First}
+use Rattle.afdx_cascade.specs.declared.scan.FirstTurn.{FirstTurn}
 use Rattle.afdx_cascade.specs.Found.{ScanFindsLeast, NothingIsDue}
 use Rattle.afdx_cascade.proofs.RingLemmas.{no-frames}
 use Rattle.afdx_cascade.proofs.NumberLemmas.{told, nothing-next, told-least}
@@ -86,7 +86,7 @@ module _ (t : Rows) (events : List Event) (side : Side) (h : switch.SwitchHistor
       (slice_get_within (entries_at t side port h.arrivals) s.place s.entry next.own.stands) in
       let none = next.own.without in cc
 
-none-due : (c : Plan) (so_far : List SwitchEvent) (at : ℕ) (ns : List Network) (r : Option First)
+none-due : (c : Plan) (so_far : List SwitchEvent) (at : ℕ) (ns : List Network) (r : Option FirstTurn)
     (is : IsFirstFrom at ns r)
     → ((j : ℕ) (n : Network) → slice_get ns j ≡ Some n
     → network.StandsFor (c.tables (at + j)) n (at_switch (at + j) so_far))

@@ -8,7 +8,7 @@ use Rattle.afdx_cascade.specs.SwitchEvents.{Plan, SwitchEvent, at_switch}
 use Rattle.afdx_cascade.specs.Due.{AreOrders, IsLeastOf, IsRing}
 use Rattle.afdx_cascade.specs.Runs.{IsDue}
 use Rattle.afdx_cascade.specs.Scan.{IsFirstFrom}
-use Rattle.afdx_cascade.specs.declared.scan.First.{First}
+use Rattle.afdx_cascade.specs.declared.scan.FirstTurn.{FirstTurn}
 
 -- the networks stand for what happened at their switches, and nothing happened at others
 pub record AllStand (c : Plan) (ns : List Network) (so_far : List SwitchEvent) : Type 0 where
@@ -18,7 +18,7 @@ pub record AllStand (c : Plan) (ns : List Network) (so_far : List SwitchEvent) :
   pub others : (k : ℕ) → length ns ≤ k → at_switch k so_far ≡ []
 
 -- each side's switch has an order number, and this is the least
-pub record FindsLeast (c : Plan) (so_far : List SwitchEvent) (f : First) : Type 0 where
+pub record FindsLeast (c : Plan) (so_far : List SwitchEvent) (f : FirstTurn) : Type 0 where
   pub order : ℕ → Side → ℕ
   pub are : AreOrders c so_far order
   pub is : f.order ≡ order f.switch f.side
@@ -27,7 +27,7 @@ pub record FindsLeast (c : Plan) (so_far : List SwitchEvent) (f : First) : Type 
 -- The first of the turns that the networks tell is the least.
 abbrev pub ScanFindsLeast : Type 0
 ScanFindsLeast =
-    (c : Plan) (so_far : List SwitchEvent) (ns : List Network) (f : First) →
+    (c : Plan) (so_far : List SwitchEvent) (ns : List Network) (f : FirstTurn) →
     AllStand c ns so_far →
     IsFirstFrom 0 ns (Some f) →
     FindsLeast c so_far f
@@ -36,7 +36,7 @@ ScanFindsLeast =
 -- events.
 abbrev pub NothingIsDue : Type 0
 NothingIsDue =
-    (c : Plan) (so_far : List SwitchEvent) (ns : List Network) (f : First) (time : ℕ) →
+    (c : Plan) (so_far : List SwitchEvent) (ns : List Network) (f : FirstTurn) (time : ℕ) →
     AllStand c ns so_far →
     IsFirstFrom 0 ns (Some f) →
     order_without_turn ≤ f.order →

@@ -21,7 +21,7 @@ use Rattle.afdx_cascade.specs.Runs.{Line, IsBeforeLine, IsFirstDue, IsNextLine, 
 use Rattle.afdx_cascade.specs.Scan.{IsFirstFrom}
 use Rattle.afdx_cascade.specs.Standing.{Stands, AreDueAfter}
 use Rattle.afdx_cascade.specs.Turning.{AreInTransit, IsInTransit, ArrivesAt, CanArrive, TurnsAt, TellsTurn}
-use Rattle.afdx_cascade.specs.declared.scan.First.{First}
+use Rattle.afdx_cascade.specs.declared.scan.FirstTurn.{FirstTurn}
 use Rattle.afdx_cascade.specs.declared.told.Brought.{Brought}
 use Rattle.afdx_cascade.specs.declared.cable.InTransit.{InTransit}
 use Rattle.afdx_cascade.specs.declared.told.Turned.{Turned}
@@ -62,7 +62,7 @@ pub record TurnIsNext (c : Plan) (networks : List Network) (transit : List InTra
 abbrev pub TurnKeeps : Type 0
 TurnKeeps =
     (c : Plan) (so_far : List SwitchEvent) (old networks : List Network) (transit : List InTransit)
-    (time until : ℕ) (ring : List OnCable) (f : First) (value : Turned) →
+    (time until : ℕ) (ring : List OnCable) (f : FirstTurn) (value : Turned) →
     Keeps c old time ring so_far →
     IsFirstFrom 0 old (Some f) →
     f.order < order_without_turn →
@@ -81,7 +81,7 @@ TurnKeeps =
 abbrev pub FrontCanArrive : Type 0
 FrontCanArrive =
     (c : Plan) (so_far : List SwitchEvent) (networks : List Network) (time : ℕ) (r : OnCable)
-    (rest : List OnCable) (f : First) (v : InTransit) →
+    (rest : List OnCable) (f : FirstTurn) (v : InTransit) →
     Keeps c networks time (r ∷ rest) so_far →
     IsFirstFrom 0 networks (Some f) →
     2 * time < f.order →
@@ -103,7 +103,7 @@ pub record FrontIsNext (c : Plan) (networks : List Network) (transit : List InTr
 abbrev pub FrontKeeps : Type 0
 FrontKeeps =
     (c : Plan) (so_far : List SwitchEvent) (old networks : List Network) (transit : List InTransit)
-    (time : ℕ) (r : OnCable) (rest : List OnCable) (f : First) (value : Brought) →
+    (time : ℕ) (r : OnCable) (rest : List OnCable) (f : FirstTurn) (value : Brought) →
     Keeps c old time (r ∷ rest) so_far →
     IsFirstFrom 0 old (Some f) →
     2 * time < f.order →

@@ -19,7 +19,7 @@ const GROUP: usize = 4;
 /// The first turn of several switches of both sides: where it stands in the order of turns, and the
 /// number and side of its switch.
 #[derive(Clone, Copy, Debug)]
-pub(crate) struct First {
+pub(crate) struct FirstTurn {
     pub order: u64,
     pub switch: usize,
     pub side: Side,
@@ -102,14 +102,14 @@ pub(crate) fn renew(keys: &mut Vec<u64>, least: u64, networks: &[Network], switc
 
 /// The first turn of the switches of whose keys this is the least. If no switch has a turn to come,
 /// its order is 2^52.
-pub(crate) fn first_of(least: u64) -> First
+pub(crate) fn first_of(least: u64) -> FirstTurn
     ensures first { (networks : List At) (keys : List ℕ) → length networks ≤ switches_most →
         AreKeys networks keys → IsLeast keys least → IsFirstFrom 0 networks (Some result) }
     ensures within { (networks : List At) (keys : List ℕ) → length networks ≤ switches_most →
         AreKeys networks keys → IsLeast keys least → result.switch < length networks }
 {
     let side = side_of(least / KEY_SWITCHES % 2);
-    First {
+    FirstTurn {
         order: least / (2 * KEY_SWITCHES),
         switch: (least % KEY_SWITCHES) as usize,
         side,

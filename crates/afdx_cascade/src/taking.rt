@@ -14,7 +14,7 @@ ghost use Rattle.afdx_cascade.specs.Scan.{IsFirstFrom, switches_most};
 ghost use Rattle.afdx_cascade.specs.Turning.{AreEnds, AreInTransit};
 
 use crate::cable::InTransit;
-use crate::scan::First;
+use crate::scan::FirstTurn;
 use crate::told::{Brought, Turned};
 use crate::turning::{front_at, turn_at};
 use afdx_config::FarEnd;
@@ -53,7 +53,7 @@ fn is_front_next(transit: &VecDeque<InTransit>, order: u64) -> bool
 pub(crate) fn bring_next(
     networks: &mut [Network],
     transit: &mut VecDeque<InTransit>,
-    first: First,
+    first: FirstTurn,
 ) -> Result<Option<Brought>, AllocError>
     requires first { IsFirstFrom 0 networks.old (Some first) }
     requires sound { (c : Plan) × (time : ℕ) × (ring : List OnCable) × (so_far : List SwitchEvent)
@@ -91,7 +91,7 @@ pub(crate) fn turn_next(
     networks: &mut [Network],
     ends: &[Option<FarEnd>],
     transit: &mut VecDeque<InTransit>,
-    first: First,
+    first: FirstTurn,
     until: u64,
 ) -> Result<Option<Turned>, AllocError>
     requires first { IsFirstFrom 0 networks.old (Some first) }

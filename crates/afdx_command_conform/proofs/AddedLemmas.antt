@@ -15,7 +15,7 @@ use Rattle.afdx_command_conform.specs.Keys.{is_key, key_place}
 use Rattle.afdx_command_conform.specs.Lines.{AreInOrder, Due, of_key}
 use Rattle.afdx_command_conform.specs.Slots.{AreFalling, IsNewlyDue, IsStream, IsStrange, StrangersStand, StreamEnds, StreamStands}
 use Rattle.afdx_command_conform.specs.Waiting.{slot_due}
-use Rattle.afdx_command_conform.specs.declared.kept.Kept.{Kept}
+use Rattle.afdx_command_conform.specs.declared.kept.KeptByKey.{KeptByKey}
 use Rattle.afdx_command_conform.specs.declared.key.Key.{Key}
 use Rattle.afdx_command_conform.specs.declared.slot.Slot.{Slot}
 use Rattle.afdx_command_conform.specs.declared.slot.Slot.TheVariants.{Nothing, Strangers, Stream}
@@ -134,7 +134,7 @@ nothing-there z k xs ys lines time (Stream s told) none stands = absurd (none tt
 
 module _ (t : Rows) (c : Choices) (until : ℕ) (lawful : IsLawfulSwitch t) (time : ℕ) (given : Key → Given)
     (lines : List Due)
-    (old new : Kept) (key : Key) (slot : Slot) (due : Option ℕ) (at : ℕ) where
+    (old new : KeptByKey) (key : Key) (slot : Slot) (due : Option ℕ) (at : ℕ) where
   pub kept-came : (l : LinkRow) (x : Arrival)
       → IsStreamOf t key l
       → AreKept t c until None time given lines old
@@ -215,7 +215,7 @@ module _ (t : Rows) (c : Choices) (until : ℕ) (lawful : IsLawfulSwitch t) (tim
 -- a stream is put where there was none
 pub kept-put : (t : Rows) (c : Choices) (until : ℕ) (lawful : IsLawfulSwitch t) (time : ℕ) (given : Key → Given)
     (lines : List Due)
-    (old new : Kept) (key : Key) (slot : Slot) (l : LinkRow)
+    (old new : KeptByKey) (key : Key) (slot : Slot) (l : LinkRow)
     → IsStreamOf t key l
     → AreKept t c until None time given lines old
     → (IsStream (slot_at old.slots.items key) → ⊥)
@@ -258,13 +258,14 @@ read-there slots key place s at within is =
 -- the place of a key of the tables is there
 pub stands-within : (t : Rows) (c : Choices) (until : ℕ) (ended : Option ℕ) (time : ℕ) (given : Key → Given)
     (lines : List Due)
-    (kept : Kept) (key : Key) → IsLawfulSwitch t → is_known t key ≡ true → AreKept t c until ended time given lines kept
+    (kept : KeptByKey) (key : Key) → IsLawfulSwitch t → is_known t key ≡ true →
+    AreKept t c until ended time given lines kept
     → key_place key < length kept.slots.items
 stands-within t c until ended time given lines kept key lawful known are =
     subst (λ n. key_place key < n) (sym are.count) (known-within t key lawful known)
 
 -- nothing was kept, and nothing is awaited
-pub kept-none : (t : Rows) (c : Choices) (until : ℕ) (time : ℕ) (kept : Kept)
+pub kept-none : (t : Rows) (c : Choices) (until : ℕ) (time : ℕ) (kept : KeptByKey)
     → length kept.slots.items ≡ 512 + 64 * length t.links
     → ((k : Key) → slot_at kept.slots.items k ≡ Nothing)
     → kept.agenda ≡ []
@@ -306,7 +307,7 @@ nothing-strange k all lines (Stream s told) none stands = absurd stands
 -- room for them is put where there was none
 pub kept-room : (t : Rows) (c : Choices) (until : ℕ) (lawful : IsLawfulSwitch t) (time : ℕ) (given : Key → Given)
     (lines : List Due)
-    (old new : Kept) (key : Key) (slot : Slot)
+    (old new : KeptByKey) (key : Key) (slot : Slot)
     → key.link ≡ None
     → is_known t key ≡ true
     → AreKept t c until None time given lines old

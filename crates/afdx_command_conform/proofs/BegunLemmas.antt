@@ -15,7 +15,7 @@ use Rattle.afdx_command_conform.specs.Lines.{AreInOrder, Due, dues_of}
 use Rattle.afdx_command_conform.specs.Telling.{lines_text}
 use Rattle.afdx_command_conform.specs.Told.{GoesOn, HasBegun, Stands}
 use Rattle.afdx_command_conform.specs.Written.{BeginsAll, BeginsWritten}
-use Rattle.afdx_command_conform.specs.declared.judging.Judging.{Judging}
+use Rattle.afdx_command_conform.specs.declared.judging.JudgingRun.{JudgingRun}
 use Rattle.afdx_command_conform.proofs.EarlyLemmas.{comes-later, last-first, stands-begun}
 use Rattle.afdx_command_conform.proofs.TellingLemmas.{text-append}
 
@@ -49,7 +49,7 @@ goes-on k time until ended frames le said none = record {
 }
 
 -- to the time of a frame
-pub goes-past : (k : Rows × Choices) (time : ℕ) (j : Judging) (lines : List ConformLine) (frames : List Frame)
+pub goes-past : (k : Rows × Choices) (time : ℕ) (j : JudgingRun) (lines : List ConformLine) (frames : List Frame)
     → Stands k false time j frames lines → GoesOn k false time time (Some time) j.streams.ended frames
 goes-past k time j lines frames stands = record {
   later = omega arith;
@@ -60,7 +60,8 @@ goes-past k time j lines frames stands = record {
 }
 
 -- and once all came
-pub goes-last : (k : Rows × Choices) (time : ℕ) (j : Judging) (lines : List ConformLine) (frames : List Frame) (end : ℕ)
+pub goes-last : (k : Rows × Choices) (time : ℕ) (j : JudgingRun) (lines : List ConformLine) (frames : List Frame)
+    (end : ℕ)
     → j.streams.ended ≡ Some end → Stands k true time j frames lines → GoesOn k true time time None j.streams.ended
     frames
 goes-last k time j lines frames end at stands = record {

@@ -15,7 +15,7 @@ use Rattle.afdx_command_conform.specs.Keeping.{AreKept, IsNothingDue, given_of, 
 use Rattle.afdx_command_conform.specs.Lines.{AreLines, Due, dues_of, last_rank, lines_of, of_key}
 use Rattle.afdx_command_conform.specs.Told.{IsEnding, MayEnd, Stands, StandsIf}
 use Rattle.afdx_command_conform.specs.Waiting.{slot_due}
-use Rattle.afdx_command_conform.specs.declared.judging.Judging.{Judging}
+use Rattle.afdx_command_conform.specs.declared.judging.JudgingRun.{JudgingRun}
 use Rattle.afdx_command_conform.specs.declared.key.Key.{Key}
 use Rattle.afdx_command_conform.proofs.AddedLemmas.{to-ended}
 use Rattle.afdx_command_conform.proofs.BehindLemmas.{IsBehind}
@@ -57,7 +57,7 @@ end-from : (said : Option ℕ) (time until : ℕ) → ((end : ℕ) → said ≡ 
 end-from None time until running may = may
 end-from (Some u) time until running may = let le = running u refl in omega (arith, le, may)
 
-module _ (k : Rows × Choices) (frames : List Frame) (time : ℕ) (j : Judging) (lines : List ConformLine)
+module _ (k : Rows × Choices) (frames : List Frame) (time : ℕ) (j : JudgingRun) (lines : List ConformLine)
     (latest : latest_of frames ≤ time) (stands : Stands k false time j frames lines) where
   module _ (until : ℕ) (more : List Frame) (may : IsEndFrom k.1.until time until) (late : ComeFrom time more) where
     held : StandsIf k.0 k.1 false until frames lines time j.streams
@@ -119,7 +119,7 @@ module _ (k : Rows × Choices) (frames : List Frame) (time : ℕ) (j : Judging) 
 
 -- ---- once all came
 
-module _ (k : Rows × Choices) (frames : List Frame) (time : ℕ) (j : Judging) (lines : List ConformLine) (end : ℕ)
+module _ (k : Rows × Choices) (frames : List Frame) (time : ℕ) (j : JudgingRun) (lines : List ConformLine) (end : ℕ)
     (is : j.streams.ended ≡ Some end) (stands : Stands k true time j frames lines) where
   whole : StandsIf k.0 k.1 true end frames lines time j.streams
   whole = stands.all end (subst (λ e. MayEnd k.1.until frames e end) (sym is) refl)

@@ -13,7 +13,7 @@ use Rattle.afdx_command_conform.specs.Counting.{AreEnded}
 use Rattle.afdx_command_conform.specs.Keeping.{IsNothingDue}
 use Rattle.afdx_command_conform.specs.Lines.{AreLines, Due, lines_of}
 use Rattle.afdx_command_conform.specs.Told.{TellsAll, TellsOf, TellsToEnd}
-use Rattle.afdx_command_conform.specs.declared.judging.Judging.{Judging}
+use Rattle.afdx_command_conform.specs.declared.judging.JudgingRun.{JudgingRun}
 use Rattle.afdx_command_conform.proofs.EarlyLemmas.{last-all, last-ended}
 
 pub latest-same : (past : List (Item Seen)) → latest_of (frames_of past) ≡ latest_seen past
@@ -32,7 +32,7 @@ known-end None e = absurd (true≢false (sym e))
 known-end (Some end) e = (end, refl)
 
 -- all is told once nothing is due
-pub ends-all : {V E : Type 0} (r : Result V E) (k : Rows × Choices) (j : Judging) (old new : Option (List ℕ))
+pub ends-all : {V E : Type 0} (r : Result V E) (k : Rows × Choices) (j : JudgingRun) (old new : Option (List ℕ))
     (past : List (Item Seen)) (time : ℕ) → is_some j.streams.ended ≡ true
     → OnOk r (TellsAll k true time j old new (frames_of past) × IsNothingDue k.0 None j.streams.kept)
     → OnOk r (TellsToEnd k j old new past)
@@ -42,7 +42,7 @@ ends-all (Err e) k j old new past time some told = tt
 -- ---- all lines
 
 -- what was told to the end is all
-pub all-lines : (k : Rows × Choices) (j : Judging) (old new : Option (List ℕ)) (past : List (Item Seen))
+pub all-lines : (k : Rows × Choices) (j : JudgingRun) (old new : Option (List ℕ)) (past : List (Item Seen))
     → TellsToEnd k j old new past
     → (dues : List Due) × AreLines k.0 k.1 (until_or k.1.until (frames_of past)) (frames_of past) dues
     × TellsOf k (frames_of past) j old new (lines_of dues)
@@ -52,7 +52,7 @@ all-lines k j old new past (time, told, some, nothing) =
     (all.0, all.2, subst (λ l. TellsOf k (frames_of past) j old new l) all.1 told.1)
 
 -- and each stream is judged
-pub all-ended : (k : Rows × Choices) (j : Judging) (old new : Option (List ℕ)) (past : List (Item Seen))
+pub all-ended : (k : Rows × Choices) (j : JudgingRun) (old new : Option (List ℕ)) (past : List (Item Seen))
     → TellsToEnd k j old new past
     → AreEnded j.streams.tables.now k.1 (until_or k.1.until (frames_of past)) (frames_of past) j.streams.kept
 all-ended k j old new past (time, told, some, nothing) =

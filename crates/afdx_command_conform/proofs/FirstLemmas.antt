@@ -20,7 +20,7 @@ use Rattle.afdx_command_conform.specs.Keys.{is_key, key_rank}
 use Rattle.afdx_command_conform.specs.Lines.{AreLines, Due, dues_by, dues_of, judged_dues, last_rank, of_key, rank, stranger_due, stream_dues}
 use Rattle.afdx_command_conform.specs.Tapped.{judged_to, link_to}
 use Rattle.afdx_command_conform.specs.Waiting.{slot_due}
-use Rattle.afdx_command_conform.specs.declared.kept.Kept.{Kept}
+use Rattle.afdx_command_conform.specs.declared.kept.KeptByKey.{KeptByKey}
 use Rattle.afdx_command_conform.specs.declared.key.Key.{Key}
 use Rattle.afdx_command_conform.proofs.AddedLemmas.{to-ended, to-strangers, to-stream}
 use Rattle.afdx_command_conform.proofs.BehindLemmas.{IsBehind, ended-behind, none-judged, stream-behind, strangers-behind}
@@ -241,7 +241,8 @@ is-small t k lawful known = by k.link known
 
 -- ---- what is behind the lines that are told
 
-module _ (t : Rows) (c : Choices) (until time : ℕ) (more frames : List Frame) (dues : List Due) (kept : Kept) (k : Key)
+module _ (t : Rows) (c : Choices) (until time : ℕ) (more frames : List Frame) (dues : List Due) (kept : KeptByKey)
+    (k : Key)
     (known : is_known t k ≡ true) (Q : ℕ → Type 0) (up : (a b : ℕ) → a ≤ b → Q a → Q b)
     (due : (m : ℕ) → slot_due (slot_at kept.slots.items k) ≡ Some m → Q m) where
   abbrev Behind : Type 0
@@ -322,76 +323,77 @@ pub ranked-up : (last : ℕ) (k : Key) (a b : ℕ) → a ≤ b → IsRanked last
 ranked-up last k a b le h = omega (arith, le, h)
 
 module _ (t : Rows) (c : Choices) (until time : ℕ) (ended : Option ℕ) (frames all : List Frame) (dues : List Due)
-    (lawful : IsLawfulSwitch t) (kept : Kept) (are : AreKept t c until ended time (given_of t c frames) dues kept) where
-  only-known : (k : Key) → 256 ≤ k.port → of_key k dues ≡ []
-  only-known k large = elim (known-or-not t k) [
-    | inl known ↦ absurd (let small = is-small t k lawful known in omega (arith, small, large))
-    | inr unknown ↦ are.none k unknown
-  ]
-
-  pub first-lines : ((k : Key) → is_known t k ≡ true
-      → IsBehind k (IsRanked (last_rank dues) k) (of_key k dues) (dues_of t c until all k))
-      → AreFirstLines t c until all dues
-  first-lines behind = record {
-    own = λ k small. elim (known-or-not t k) [
-      | inl known ↦
-          (let b = behind k known in
-          record {
-            rest = b.rest;
-            are = b.are;
-            later = every-on (λ d. IsRanked (last_rank dues) k d.moment × (d.key ≡ k)) (λ d. last_rank dues ≤ rank d)
-                (λ d h. (let r = h.0 in let same = ap key_rank h.1 in omega (arith, r, same))) b.rest b.later;
-          })
-      | inr unknown ↦
-          record {
-            rest = [];
-            are = unknown-own t c until all k small unknown ∙ sym (are.none k unknown);
-            later = tt;
-          }
-    ];
-    only = only-known;
-    in_order = are.in_order;
-  }
-
-  pub lines-before : (to : ℕ) → AllByRecursion (λ d. d.moment < to) dues
-      → ((k : Key) → is_known t k ≡ true → IsBehind k (λ m. to ≤ m) (of_key k dues) (dues_of t c until all k))
-      → AreLinesBefore t c until all to dues
-  lines-before to early behind = record {
-    own = λ k small. elim (known-or-not t k) [
-      | inl known ↦
-          (let b = behind k known in
-          sym (ap (λ l. filter (λ d. nat_lt d.moment to) l) b.are
-          ∙ filter-append (λ d. nat_lt d.moment to) b.rest (of_key k dues)
-          ∙ ap (λ l. l ++ filter (λ d. nat_lt d.moment to) (of_key k dues))
-          (filter-none (λ d. nat_lt d.moment to) b.rest
-          (every-on (λ d. (to ≤ d.moment) × (d.key ≡ k)) (λ d. nat_lt d.moment to ≡ false)
-          (λ d h. le-ltb d.moment to h.0) b.rest b.later))
-          ∙ filter-all (λ d. nat_lt d.moment to) (of_key k dues)
-          (every-on (λ d. d.moment < to) (λ d. nat_lt d.moment to ≡ true) (λ d h. lt-ltb d.moment to h) (of_key k dues)
-          (filter-every (λ d. d.moment < to) (λ d. is_key k d.key) dues early))))
+    (lawful : IsLawfulSwitch t) (kept : KeptByKey) (are : AreKept t c until ended time (given_of t c frames) dues kept)
+  where
+    only-known : (k : Key) → 256 ≤ k.port → of_key k dues ≡ []
+    only-known k large = elim (known-or-not t k) [
+      | inl known ↦ absurd (let small = is-small t k lawful known in omega (arith, small, large))
       | inr unknown ↦ are.none k unknown
-          ∙ sym (ap (λ l. filter (λ d. nat_lt d.moment to) l) (unknown-own t c until all k small unknown))
-    ];
-    only = only-known;
-    in_order = are.in_order;
-  }
+    ]
 
-  all-told : (k : Key) → IsBehind k (λ m. ⊥) (of_key k dues) (dues_of t c until all k)
-      → of_key k dues ≡ dues_of t c until all k
-  all-told k b = by b.rest b.are b.later
-    where
-      by : (rest : List Due) → dues_of t c until all k ≡ rest ++ of_key k dues
-          → AllByRecursion (λ d. ⊥ × (d.key ≡ k)) rest → of_key k dues ≡ dues_of t c until all k
-      by [] is none = sym is
-      by (d ∷ rest) is none = absurd none.0.0
+    pub first-lines : ((k : Key) → is_known t k ≡ true
+        → IsBehind k (IsRanked (last_rank dues) k) (of_key k dues) (dues_of t c until all k))
+        → AreFirstLines t c until all dues
+    first-lines behind = record {
+      own = λ k small. elim (known-or-not t k) [
+        | inl known ↦
+            (let b = behind k known in
+            record {
+              rest = b.rest;
+              are = b.are;
+              later = every-on (λ d. IsRanked (last_rank dues) k d.moment × (d.key ≡ k)) (λ d. last_rank dues ≤ rank d)
+                  (λ d h. (let r = h.0 in let same = ap key_rank h.1 in omega (arith, r, same))) b.rest b.later;
+            })
+        | inr unknown ↦
+            record {
+              rest = [];
+              are = unknown-own t c until all k small unknown ∙ sym (are.none k unknown);
+              later = tt;
+            }
+      ];
+      only = only-known;
+      in_order = are.in_order;
+    }
 
-  pub only-lines : ((k : Key) → is_known t k ≡ true → IsBehind k (λ m. ⊥) (of_key k dues) (dues_of t c until all k))
-      → AreLines t c until all dues
-  only-lines behind = record {
-    own = λ k small. elim (known-or-not t k) [
-      | inl known ↦ all-told k (behind k known)
-      | inr unknown ↦ are.none k unknown ∙ sym (unknown-own t c until all k small unknown)
-    ];
-    only = only-known;
-    in_order = are.in_order;
-  }
+    pub lines-before : (to : ℕ) → AllByRecursion (λ d. d.moment < to) dues
+        → ((k : Key) → is_known t k ≡ true → IsBehind k (λ m. to ≤ m) (of_key k dues) (dues_of t c until all k))
+        → AreLinesBefore t c until all to dues
+    lines-before to early behind = record {
+      own = λ k small. elim (known-or-not t k) [
+        | inl known ↦
+            (let b = behind k known in
+            sym (ap (λ l. filter (λ d. nat_lt d.moment to) l) b.are
+            ∙ filter-append (λ d. nat_lt d.moment to) b.rest (of_key k dues)
+            ∙ ap (λ l. l ++ filter (λ d. nat_lt d.moment to) (of_key k dues))
+            (filter-none (λ d. nat_lt d.moment to) b.rest
+            (every-on (λ d. (to ≤ d.moment) × (d.key ≡ k)) (λ d. nat_lt d.moment to ≡ false)
+            (λ d h. le-ltb d.moment to h.0) b.rest b.later))
+            ∙ filter-all (λ d. nat_lt d.moment to) (of_key k dues)
+            (every-on (λ d. d.moment < to) (λ d. nat_lt d.moment to ≡ true) (λ d h. lt-ltb d.moment to h)
+            (of_key k dues) (filter-every (λ d. d.moment < to) (λ d. is_key k d.key) dues early))))
+        | inr unknown ↦ are.none k unknown
+            ∙ sym (ap (λ l. filter (λ d. nat_lt d.moment to) l) (unknown-own t c until all k small unknown))
+      ];
+      only = only-known;
+      in_order = are.in_order;
+    }
+
+    all-told : (k : Key) → IsBehind k (λ m. ⊥) (of_key k dues) (dues_of t c until all k)
+        → of_key k dues ≡ dues_of t c until all k
+    all-told k b = by b.rest b.are b.later
+      where
+        by : (rest : List Due) → dues_of t c until all k ≡ rest ++ of_key k dues
+            → AllByRecursion (λ d. ⊥ × (d.key ≡ k)) rest → of_key k dues ≡ dues_of t c until all k
+        by [] is none = sym is
+        by (d ∷ rest) is none = absurd none.0.0
+
+    pub only-lines : ((k : Key) → is_known t k ≡ true → IsBehind k (λ m. ⊥) (of_key k dues) (dues_of t c until all k))
+        → AreLines t c until all dues
+    only-lines behind = record {
+      own = λ k small. elim (known-or-not t k) [
+        | inl known ↦ all-told k (behind k known)
+        | inr unknown ↦ are.none k unknown ∙ sym (unknown-own t c until all k small unknown)
+      ];
+      only = only-known;
+      in_order = are.in_order;
+    }

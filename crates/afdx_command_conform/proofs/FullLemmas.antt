@@ -19,9 +19,9 @@ use Rattle.afdx_command_conform.specs.Standing.{IsBehindAll, StreamsStand}
 use Rattle.afdx_command_conform.specs.Told.{IsEndFor, IsEnding, MayEnd, StandsIf, Stands, lines_of}
 use Rattle.afdx_conform.proofs.EveryLemmas.{every-on}
 use Rattle.std.specs.List.{AllByRecursion}
-use Rattle.afdx_command_conform.specs.declared.judging.Judging.{Judging}
+use Rattle.afdx_command_conform.specs.declared.judging.JudgingRun.{JudgingRun}
 use Rattle.afdx_command_conform.specs.declared.key.Key.{Key}
-use Rattle.afdx_command_conform.specs.declared.kept.Kept.{Kept}
+use Rattle.afdx_command_conform.specs.declared.kept.KeptByKey.{KeptByKey}
 use Rattle.afdx_command_conform.specs.declared.slot.Slot.{Slot}
 use Rattle.afdx_command_conform.specs.declared.slot.Slot.TheVariants as slot
 use Rattle.afdx_command_conform.specs.declared.streams.Streams.{Streams}
@@ -75,7 +75,7 @@ module _ (t : Rows) (c : Choices) (until : ℕ) (time to : ℕ) (le : time ≤ t
       by (Some e) st l is = from-ended t c until to k l given lines s e is (to-ended t c until time k l given lines s
           e is st)
 
-  kept-later : (ended : Option ℕ) (given : Key → Given) (lines : List Due) (kept : Kept)
+  kept-later : (ended : Option ℕ) (given : Key → Given) (lines : List Due) (kept : KeptByKey)
       → AreKept t c until ended time given lines kept → AreKept t c until ended to given lines kept
   kept-later ended given lines kept are = record {
     stand = λ k known. key-later ended k (given k) (of_key k lines) (slot_at kept.slots.items k) known
@@ -154,7 +154,7 @@ told-before key m time items dues lt all = go (reverse items)
 
 module _ (k : Rows × Choices) (frames : List Frame) where
   -- with other streams, of the same end
-  pub stands-to : (last : Bool) (time : ℕ) (j i : Judging) (lines more : List ConformLine)
+  pub stands-to : (last : Bool) (time : ℕ) (j i : JudgingRun) (lines more : List ConformLine)
       → ((until : ℕ) (dues : List Due) → StreamsStand k.0 k.1 until frames dues time j.streams
       → AreBefore last time dues
       → (d : List Due) × (lines_of d ≡ lines_of dues ++ more) × StreamsStand k.0 k.1 until frames d time i.streams
@@ -173,7 +173,7 @@ module _ (k : Rows × Choices) (frames : List Frame) where
   }
 
   -- with the lines of one moment that are taken
-  pub stands-taken : (last : Bool) (time : ℕ) (j i : Judging) (lines out : List ConformLine) (key : Key) (m : ℕ)
+  pub stands-taken : (last : Bool) (time : ℕ) (j i : JudgingRun) (lines out : List ConformLine) (key : Key) (m : ℕ)
       (items : List ConformLine)
       → out ≡ items
       → ((until : ℕ) (dues : List Due) → StreamsStand k.0 k.1 until frames dues time j.streams
@@ -191,7 +191,7 @@ module _ (k : Rows × Choices) (frames : List Frame) where
       )) ended over stands
 
   pub stands-later : (last after : Bool) → (after ≡ false → last ≡ false)
-      → (time to : ℕ) (j : Judging) (lines : List ConformLine)
+      → (time to : ℕ) (j : JudgingRun) (lines : List ConformLine)
       → time ≤ to
       → ((end : ℕ) → j.streams.ended ≡ None → k.1.until ≡ Some end → to ≤ end)
       → ((end : ℕ) → j.streams.ended ≡ Some end → IsEnding after k.1.until frames to end)
@@ -211,7 +211,7 @@ module _ (k : Rows × Choices) (frames : List Frame) where
   }
 
   -- the end is known
-  pub stands-ended : (after : Bool) (time until to : ℕ) (j i : Judging) (lines : List ConformLine) → time ≤ until
+  pub stands-ended : (after : Bool) (time until to : ℕ) (j i : JudgingRun) (lines : List ConformLine) → time ≤ until
       → until ≤ to
       → latest_of frames ≤ until → IsEndFor k.1.until frames until → IsEnding after k.1.until frames to until
       → j.streams.ended ≡ None → i.streams.ended ≡ Some until → i.is_over ≡ true
@@ -237,13 +237,13 @@ module _ (k : Rows × Choices) (frames : List Frame) where
     over = over ∙ sym (ap (λ e. is_some e) ended);
   }
 
-  pub raised : (time to : ℕ) (j : Judging) (lines : List ConformLine) → time ≤ to
+  pub raised : (time to : ℕ) (j : JudgingRun) (lines : List ConformLine) → time ≤ to
       → ((end : ℕ) → j.streams.ended ≡ None → k.1.until ≡ Some end → to ≤ end)
       → Stands k false time j frames lines → Stands k false to j frames lines
   raised time to j lines le running stands = stands-later false false (λ e. e) time to j lines le running
       (λ end is. let e = stands.ends end is in (e.0, let lt = e.1 in omega (arith, lt, le))) stands
 
-  pub not-ended : (time : ℕ) (j : Judging) (lines : List ConformLine) → j.is_over ≡ false
+  pub not-ended : (time : ℕ) (j : JudgingRun) (lines : List ConformLine) → j.is_over ≡ false
       → Stands k false time j frames lines
       → j.streams.ended ≡ None
   not-ended time j lines over stands = by j.streams.ended (sym stands.over ∙ over)
@@ -253,7 +253,7 @@ module _ (k : Rows × Choices) (frames : List Frame) where
       by (Some n) e = absurd (true≢false e)
 
   -- once all came, the end that was said is it
-  pub stands-last : (time : ℕ) (j : Judging) (lines : List ConformLine) → Stands k false time j frames lines
+  pub stands-last : (time : ℕ) (j : JudgingRun) (lines : List ConformLine) → Stands k false time j frames lines
       → Stands k true time j frames lines
   stands-last time j lines stands = stands-later false true (λ e. refl) time time j lines (omega arith) stands.running
       (λ end is. sym (ap (λ o. until_or o frames) (stands.ends end is).0)) stands
@@ -290,7 +290,7 @@ none-there None is h = h
 none-there (Some y) is h = absurd (cc is)
 
 -- with no more lines
-pub stands-same : (k : Rows × Choices) (frames : List Frame) (last : Bool) (time : ℕ) (j i : Judging)
+pub stands-same : (k : Rows × Choices) (frames : List Frame) (last : Bool) (time : ℕ) (j i : JudgingRun)
     (lines : List ConformLine)
     → ((until : ℕ) (dues : List Due) → StreamsStand k.0 k.1 until frames dues time j.streams
     → StreamsStand k.0 k.1 until frames dues time i.streams)
@@ -316,7 +316,7 @@ may-before (Some s) frames x None until le may = may
 may-before None frames x (Some e) until le may = may
 may-before (Some s) frames x (Some e) until le may = may
 
-pub stands-next : (k : Rows × Choices) (frames : List Frame) (x : Frame) (j i : Judging) (lines : List ConformLine)
+pub stands-next : (k : Rows × Choices) (frames : List Frame) (x : Frame) (j i : JudgingRun) (lines : List ConformLine)
     → latest_of frames ≤ x.arrival.time
     → ((until : ℕ) (dues : List Due) → StreamsStand k.0 k.1 until frames dues x.arrival.time j.streams
     → StreamsStand k.0 k.1 until (x ∷ frames) dues x.arrival.time i.streams)
@@ -333,7 +333,7 @@ stands-next k frames x j i lines le next ended over stands = record {
   over = over ∙ stands.over ∙ ap (λ e. is_some e) (sym ended);
 }
 
-pub next-on : {V E : Type 0} (r : Result V E) (k : Rows × Choices) (frames : List Frame) (x : Frame) (j i : Judging)
+pub next-on : {V E : Type 0} (r : Result V E) (k : Rows × Choices) (frames : List Frame) (x : Frame) (j i : JudgingRun)
     (lines : List ConformLine) → latest_of frames ≤ x.arrival.time
     → ((until : ℕ) (dues : List Due) → StreamsStand k.0 k.1 until frames dues x.arrival.time j.streams
     → OnOk r (StreamsStand k.0 k.1 until (x ∷ frames) dues x.arrival.time i.streams))
@@ -388,7 +388,7 @@ does-count t c x in-time out le = and-all (is_in_time c x) (is_passed t c x)
     (le-leb (length x.arrival.bytes) most_bytes le)
 
 -- while frames count, the end isn't known
-pub running-then : (k : Rows × Choices) (frames : List Frame) (x : Frame) (j : Judging) (lines : List ConformLine)
+pub running-then : (k : Rows × Choices) (frames : List Frame) (x : Frame) (j : JudgingRun) (lines : List ConformLine)
     → is_in_time k.1 x ≡ true → Stands k false x.arrival.time j frames lines → j.streams.ended ≡ None
 running-then k frames x j lines in-time stands = by j.streams.ended refl
   where

@@ -26,7 +26,7 @@ use Rattle.afdx_command_conform.specs.Keys.{is_link}
 use Rattle.afdx_command_conform.specs.Lines.{Due, of_key, stranger_due}
 use Rattle.afdx_command_conform.specs.Slots.{AreFalling}
 use Rattle.afdx_command_conform.specs.Tapped.{Taps, judged_to}
-use Rattle.afdx_command_conform.specs.declared.kept.Kept.{Kept}
+use Rattle.afdx_command_conform.specs.declared.kept.KeptByKey.{KeptByKey}
 use Rattle.afdx_command_conform.specs.declared.key.Key.{Key}
 use Rattle.afdx_command_conform.proofs.KeyLemmas.{system-at}
 use Rattle.afdx_command_conform.proofs.OutletLemmas.{port-is}
@@ -35,7 +35,7 @@ use Rattle.afdx_command_conform.proofs.OutletLemmas.{port-is}
 
 pub kept-same : (t : Rows) (c : Choices) (until : ℕ) (ended : Option ℕ) (time : ℕ) (given to : Key → Given)
     (lines : List Due)
-    (kept : Kept)
+    (kept : KeptByKey)
     → ((k : Key) → is_known t k ≡ true → to k ≡ given k)
     → ((k : Key) → AreFalling (to k).strange)
     → AreKept t c until ended time given lines kept → AreKept t c until ended time to lines kept
@@ -252,7 +252,8 @@ falling-more d [] all falling = tt
 falling-more d (e ∷ ds) all falling = (all.0, falling)
 
 -- nothing was given
-pub given-none : (t : Rows) (c : Choices) (until : ℕ) (kept : Kept) → AreKept t c until None 0 nothing_given [] kept
+pub given-none : (t : Rows) (c : Choices) (until : ℕ) (kept : KeptByKey) →
+    AreKept t c until None 0 nothing_given [] kept
     → AreKept t c until None 0 (given_of t c []) [] kept
 unfolding AreFalling
 given-none t c until kept are =

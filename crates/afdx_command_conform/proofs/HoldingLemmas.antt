@@ -15,8 +15,8 @@ use Rattle.afdx_command_conform.specs.Slots.{StreamStands}
 use Rattle.afdx_command_conform.specs.Standing.{StreamsStand}
 use Rattle.afdx_command_conform.specs.Told.{MayEnd, TellsAll}
 use Rattle.afdx_command_conform.specs.Waiting.{slot_due}
-use Rattle.afdx_command_conform.specs.declared.judging.Judging.{Judging}
-use Rattle.afdx_command_conform.specs.declared.kept.Kept.{Kept}
+use Rattle.afdx_command_conform.specs.declared.judging.JudgingRun.{JudgingRun}
+use Rattle.afdx_command_conform.specs.declared.kept.KeptByKey.{KeptByKey}
 use Rattle.afdx_command_conform.specs.declared.key.Key.{Key}
 use Rattle.afdx_command_conform.specs.declared.slot.Slot.{Slot}
 use Rattle.afdx_command_conform.specs.declared.slot.Slot.TheVariants.{Nothing, Strangers, Stream}
@@ -41,7 +41,8 @@ module _ (t : Rows) (c : Choices) (until time moment : ℕ) (k : Key) (l : LinkR
       by None h = tt
       by (Some m) h = h m refl
 
-pub kept-window : (t : Rows) (c : Choices) (until at time : ℕ) (frames : List Frame) (lines : List Due) (kept : Kept)
+pub kept-window : (t : Rows) (c : Choices) (until at time : ℕ) (frames : List Frame) (lines : List Due)
+    (kept : KeptByKey)
     → AreKept t c until None at (given_of t c frames) lines kept → IsNothingDue t (Some time) kept
     → HoldsOneWindow t c until frames time kept
 kept-window t c until at time frames lines kept h none k l is =
@@ -52,7 +53,7 @@ kept-window t c until at time frames lines kept h none k l is =
 
 -- of all
 pub told-window : (k : Rows × Choices) (last : Bool) (time until : ℕ) (start output : Option (List ℕ))
-    (frames : List Frame) (j : Judging) → j.streams.ended ≡ None → MayEnd k.1.until frames None until
+    (frames : List Frame) (j : JudgingRun) → j.streams.ended ≡ None → MayEnd k.1.until frames None until
     → TellsAll k last time j start output frames × IsNothingDue k.0 (Some time) j.streams.kept
     → HoldsOneWindow k.0 k.1 until frames time j.streams.kept
 told-window k last time until start output frames j running may h =

@@ -26,7 +26,7 @@ use Rattle.afdx_command_conform.specs.Keys.{is_key, is_link, key_with}
 use Rattle.afdx_command_conform.specs.Lines.{Due, stranger_due}
 use Rattle.afdx_command_conform.specs.Slots.{AreFalling}
 use Rattle.afdx_command_conform.specs.Tapped.{is_heard, is_heard_at, is_judged, is_unheard, judged_to}
-use Rattle.afdx_command_conform.specs.declared.kept.Kept.{Kept}
+use Rattle.afdx_command_conform.specs.declared.kept.KeptByKey.{KeptByKey}
 use Rattle.afdx_command_conform.specs.declared.key.Key.{Key}
 use Rattle.afdx_command_conform.proofs.GivenLemmas.{all-filter, counted-more, falling-more, given-from, given_from, kept-same, linked, strange-times}
 use Rattle.afdx_command_conform.proofs.CameLemmas.{given-came, given-unheard, given-unnamed}
@@ -72,7 +72,7 @@ linked-falls k fs (Some l) = tt
 -- ---- all frames
 
 module _ (t : Rows) (c : Choices) (until : ℕ) (ended : Option ℕ) (time : ℕ) (frames : List Frame) (lines : List Due)
-    (kept : Kept)
+    (kept : KeptByKey)
     (lawful : IsLawfulSwitch t) (a : Arrival) where
   given-more : (x : Frame) (k : Key) → counts t c x ≡ true
       → given_of t c (x ∷ frames) k ≡ given_from t c.taps k (x ∷ counted t c frames) k.link
@@ -277,7 +277,7 @@ more-ports t row rank s is lt =
 
 pub come-next : (t : Rows) (c : Choices) (until time : ℕ) (side : Side) (place : ℕ) (row : LinkRow) (rank s : ℕ)
     (x : Arrival)
-    (given : Key → Given) (lines : List Due) (kept : Kept)
+    (given : Key → Given) (lines : List Due) (kept : KeptByKey)
     → IsLawfulSwitch t → slice_get t.links place ≡ Some row → s ≡ get_or row.to rank s → rank < length row.to
     → c.taps Left side (port_of t s) ≡ true
     → ((k : Key) → AreFalling (given k).strange)
@@ -302,7 +302,7 @@ come-next t c until time side place row rank s x given lines kept lawful at is l
 
 pub come-past : (t : Rows) (c : Choices) (until time : ℕ) (side : Side) (place : ℕ) (row : LinkRow) (rank s : ℕ)
     (x : Arrival)
-    (given : Key → Given) (lines : List Due) (kept : Kept)
+    (given : Key → Given) (lines : List Due) (kept : KeptByKey)
     → s ≡ get_or row.to rank s → rank < length row.to → c.taps Left side (port_of t s) ≡ false
     → AreKept t c until None time (came_to side place (seen_ports t c.taps side (take rank row.to)) x given) lines kept
     → AreKept t c until None time (came_to side place (seen_ports t c.taps side (take (rank + 1) row.to)) x given)
@@ -313,7 +313,7 @@ come-past t c until time side place row rank s x given lines kept is lt unseen a
     ∙ filter-push (c.taps Left side) (map (port_of t) (take rank row.to)) (port_of t s) unseen)) are
 
 pub come-first : (t : Rows) (c : Choices) (until time : ℕ) (side : Side) (place : ℕ) (row : LinkRow) (x : Arrival)
-    (given : Key → Given) (lines : List Due) (kept : Kept)
+    (given : Key → Given) (lines : List Due) (kept : KeptByKey)
     → AreKept t c until None time given lines kept
     → AreKept t c until None time (came_to side place (seen_ports t c.taps side (take 0 row.to)) x given) lines kept
 come-first t c until time side place row x given lines kept are =

@@ -19,8 +19,8 @@ use Rattle.afdx_command_conform.specs.Keys.{IsKey, is_key, key_place, key_rank}
 use Rattle.afdx_command_conform.specs.Lines.{AreInOrder, Due, due_at, last_rank, of_key}
 use Rattle.afdx_command_conform.specs.Slots.{AreFalling, IsNewlyDue, told_at}
 use Rattle.afdx_command_conform.specs.Waiting.{slot_due}
-use Rattle.afdx_command_conform.specs.declared.agenda.Entry.{Entry}
-use Rattle.afdx_command_conform.specs.declared.kept.Kept.{Kept}
+use Rattle.afdx_command_conform.specs.declared.agenda.AgendaEntry.{AgendaEntry}
+use Rattle.afdx_command_conform.specs.declared.kept.KeptByKey.{KeptByKey}
 use Rattle.afdx_command_conform.specs.declared.key.Key.{Key}
 use Rattle.afdx_command_conform.specs.declared.slot.Slot.{Slot}
 use Rattle.afdx_command_conform.proofs.AgendaLemmas.{key-small}
@@ -28,24 +28,26 @@ use Rattle.afdx_command_conform.proofs.KeyLemmas.{at-set, key-same, key-self, ke
 
 -- ---- what is awaited
 
-pub awaits-old : (due : Option ℕ) (key : Key) (before after : List Entry) (e : Entry) → Awaits due key before after
+pub awaits-old : (due : Option ℕ) (key : Key) (before after : List AgendaEntry) (e : AgendaEntry) →
+    Awaits due key before after
     → Contains before e → Contains after e
 awaits-old None key before after e is h = subst (λ l. Contains l e) (sym is) h
 awaits-old (Some m) key before after e is h =
     Contains-permutation (awaited m key ∷ before) after e is (contains_tail (awaited m key) before e h)
 
-pub awaits-new : (m : ℕ) (key : Key) (before after : List Entry) → Awaits (Some m) key before after
+pub awaits-new : (m : ℕ) (key : Key) (before after : List AgendaEntry) → Awaits (Some m) key before after
     → Contains after (awaited m key)
 awaits-new m key before after is =
     Contains-permutation (awaited m key ∷ before) after (awaited m key) is (contains_head (awaited m key) before)
 
-pub awaits-all : (P : Entry → Type 0) (due : Option ℕ) (key : Key) (before after : List Entry)
+pub awaits-all : (P : AgendaEntry → Type 0) (due : Option ℕ) (key : Key) (before after : List AgendaEntry)
     → Awaits due key before after → ((m : ℕ) → P (awaited m key)) → All P before → All P after
 awaits-all P None key before after is new all = subst (λ l. All P l) (sym is) all
 awaits-all P (Some m) key before after is new all =
     All-permutation P (awaited m key ∷ before) after is (All-cons P (awaited m key) before (new m) all)
 
-newly-awaited : (key : Key) (m : ℕ) (before due after : Option ℕ) (old new : List Entry) → IsNewlyDue before due after
+newly-awaited : (key : Key) (m : ℕ) (before due after : Option ℕ) (old new : List AgendaEntry) →
+    IsNewlyDue before due after
     → Awaits due key old new
     → (before ≡ Some m → Contains old (awaited m key))
     → after ≡ Some m → Contains new (awaited m key)
@@ -78,7 +80,8 @@ same-or-later last time at m r before after (inr later) le early held is =
 
 module _ (t : Rows) (c : Choices) (until : ℕ) where
   -- something came of a key: what is kept of it stands for that, and what is newly due is awaited
-  pub kept-added : (lawful : IsLawfulSwitch t) (time : ℕ) (given to : Key → Given) (lines : List Due) (old new : Kept)
+  pub kept-added : (lawful : IsLawfulSwitch t) (time : ℕ) (given to : Key → Given) (lines : List Due)
+      (old new : KeptByKey)
       (key : Key) (slot : Slot) (due : Option ℕ) (at : ℕ)
       → is_known t key ≡ true
       → AreKept t c until None time given lines old
@@ -166,23 +169,24 @@ told-in-order key m (x ∷ xs) lines order le = (last-told key m xs lines le, to
 -- ---- what is due is told
 
 module _ (t : Rows) (c : Choices) (until : ℕ) (ended : Option ℕ) (time : ℕ) (given : Key → Given) where
-  pub first-known : (entry : Entry) (old rest : List Entry) → IsPermutation old (entry ∷ rest)
+  pub first-known : (entry : AgendaEntry) (old rest : List AgendaEntry) → IsPermutation old (entry ∷ rest)
       → All (λ e. is_known t e.key ≡ true) old → is_known t entry.key ≡ true
   first-known entry old rest moved all =
       All-permutation (λ e. is_known t e.key ≡ true) old (entry ∷ rest) moved all 0 entry (omega arith)
 
   -- another's stays on the agenda
-  still-awaited : (entry : Entry) (old rest : List Entry) (m : ℕ) (k : Key) → IsPermutation old (entry ∷ rest)
+  still-awaited : (entry : AgendaEntry) (old rest : List AgendaEntry) (m : ℕ) (k : Key) →
+      IsPermutation old (entry ∷ rest)
       → (entry ≡ awaited m k → ⊥) → Contains old (awaited m k) → Contains rest (awaited m k)
   still-awaited entry old rest m k moved other h =
       Contains-tail entry rest (awaited m k) other (Contains-permutation old (entry ∷ rest) (awaited m k) moved h)
 
-  other-key : (entry : Entry) (m : ℕ) (k : Key) → is_key entry.key k ≡ false → entry ≡ awaited m k → ⊥
+  other-key : (entry : AgendaEntry) (m : ℕ) (k : Key) → is_key entry.key k ≡ false → entry ≡ awaited m k → ⊥
   other-key entry m k other is =
-      true≢false (sym (key-self k) ∙ ap (λ x. is_key x k) (sym (ap (λ (e : Entry). e.key) is)) ∙ other)
+      true≢false (sym (key-self k) ∙ ap (λ x. is_key x k) (sym (ap (λ (e : AgendaEntry). e.key) is)) ∙ other)
 
   -- something else is due there: nothing changes but the agenda
-  pub kept-stale : (lines : List Due) (old new : Kept) (entry : Entry)
+  pub kept-stale : (lines : List Due) (old new : KeptByKey) (entry : AgendaEntry)
       → AreKept t c until ended time given lines old
       → IsPermutation old.agenda (entry ∷ new.agenda)
       → (slot_due (slot_at old.slots.items entry.key) ≡ Some entry.moment → ⊥)
@@ -197,7 +201,8 @@ module _ (t : Rows) (c : Choices) (until : ℕ) (ended : Option ℕ) (time : ℕ
         let due : slot_due (slot_at old.slots.items k) ≡ Some m = ap (λ (l : List Slot). slot_due (slot_at l k))
         (sym slots) ∙ is in
         still-awaited entry old.agenda new.agenda m k moved
-        (λ same. stale (subst (λ (e : Entry). slot_due (slot_at old.slots.items e.key) ≡ Some e.moment) (sym same) due))
+        (λ same. stale (subst (λ (e : AgendaEntry). slot_due (slot_at old.slots.items e.key) ≡ Some e.moment)
+        (sym same) due))
         (kept.on_agenda k m known due);
     known = All-tail (λ e. is_known t e.key ≡ true) entry new.agenda
         (All-permutation (λ e. is_known t e.key ≡ true) old.agenda (entry ∷ new.agenda) moved kept.known);
@@ -216,7 +221,8 @@ module _ (t : Rows) (c : Choices) (until : ℕ) (ended : Option ℕ) (time : ℕ
   early-rank last moment r le lt small = omega (arith, le, lt, small)
 
   -- it is told
-  pub kept-stepped : (lawful : IsLawfulSwitch t) (lines : List Due) (old new : Kept) (entry : Entry) (rest : List Entry)
+  pub kept-stepped : (lawful : IsLawfulSwitch t) (lines : List Due) (old new : KeptByKey) (entry : AgendaEntry)
+      (rest : List AgendaEntry)
       (slot : Slot) (told : List ConformLine)
       → IsKey entry.key
       → AreKept t c until ended time given lines old
@@ -293,7 +299,7 @@ module _ (t : Rows) (c : Choices) (until : ℕ) (ended : Option ℕ) (time : ℕ
           omega (arith, last, there)
 
 -- what is taken comes before that time
-pub in-time : (time : ℕ) (before : Option ℕ) (x : Entry) → IsSomeUpTo time before → is_before before x ≡ true
+pub in-time : (time : ℕ) (before : Option ℕ) (x : AgendaEntry) → IsSomeUpTo time before → is_before before x ≡ true
     → x.moment < time
 in-time time None x up is = absurd up
 in-time time (Some before) x up is = let lt = ltb-true x.moment before is in omega (arith, lt, up)

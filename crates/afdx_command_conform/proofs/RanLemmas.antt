@@ -34,7 +34,7 @@ use Rattle.afdx_command_conform.specs.Telling.{lines_text}
 use Rattle.afdx_command_conform.specs.Told.{TellsItems, TellsToEnd}
 use Rattle.afdx_command_conform.specs.Written.{BeginsLast, BeginsWritten, IsWritten, IsWrittenSoFar}
 use Rattle.afdx_command_conform.specs.Totals.{last_line}
-use Rattle.afdx_command_conform.specs.declared.judging.Judging.{Judging}
+use Rattle.afdx_command_conform.specs.declared.judging.JudgingRun.{JudgingRun}
 use Rattle.afdx_command_conform.specs.declared.run.RunCounts.{RunCounts}
 use Rattle.afdx_command_conform.specs.declared.totals.Totals.{Totals}
 
@@ -60,7 +60,7 @@ module _ (Takes : List Frame → Result SeenCount RunFault → Type 0) (k : Rows
       (Err Memory)
   answers-memory old takes = inl ([], takes, inl (nothing-so-far k old))
 
-  module _ (judging : Judging) (old mid : Option (List ℕ)) where
+  module _ (judging : JudgingRun) (old mid : Option (List ℕ)) where
     abbrev pub Tells : List (Item Seen) → Type 0
     Tells = TellsItems k judging old mid
 

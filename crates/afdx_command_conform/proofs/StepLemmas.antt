@@ -16,7 +16,7 @@ use Rattle.afdx_command_conform.specs.Lines.{Due, of_key}
 use Rattle.afdx_command_conform.specs.Slots.{AreFalling, Ends, StrangersStand, StreamEnds, StreamStands, told_at}
 use Rattle.afdx_command_conform.specs.Waiting.{slot_due}
 use Rattle.afdx_command_conform.specs.declared.key.Key.{Key}
-use Rattle.afdx_command_conform.specs.declared.kept.Kept.{Kept}
+use Rattle.afdx_command_conform.specs.declared.kept.KeptByKey.{KeptByKey}
 use Rattle.afdx_command_conform.specs.declared.slot.Slot.{Slot}
 use Rattle.afdx_command_conform.proofs.AddedLemmas.{from-ended, from-stream, from-strangers, to-ended, to-stream, to-strangers}
 use Rattle.afdx_command_conform.proofs.KeyLemmas.{known-link}
@@ -103,7 +103,8 @@ module _ (t : Rows) (c : Choices) (until : ℕ) (time : ℕ) (key : Key) (given 
 
 module _ (t : Rows) (c : Choices) (until : ℕ) (lawful : IsLawfulSwitch t) (time : ℕ) (given : Key → Given)
     (lines : List Due)
-    (old new : Kept) (le : time ≤ until) (in-time : (k : Key) → AllByRecursion (λ x. x.time ≤ until) (given k).came)
+    (old new : KeptByKey) (le : time ≤ until)
+    (in-time : (k : Key) → AllByRecursion (λ x. x.time ≤ until) (given k).came)
     (kept : AreKept t c until None time given lines old)
     (ends : (k : Key) → is_known t k ≡ true → Ends until (slot_at old.slots.items k) (slot_at new.slots.items k)) where
   ended-stands : (k : Key) → is_known t k ≡ true

@@ -15,7 +15,7 @@ use Rattle.afdx_command_conform.specs.Judging.{IsSameButTaken}
 use Rattle.afdx_command_conform.specs.Telling.{findings_in, lines_text, most_counted, one_if}
 use Rattle.afdx_command_conform.specs.Standing.{IsSameButKept}
 use Rattle.afdx_command_conform.specs.Told.{TellsOf}
-use Rattle.afdx_command_conform.specs.declared.judging.Judging.{Judging}
+use Rattle.afdx_command_conform.specs.declared.judging.JudgingRun.{JudgingRun}
 use Rattle.afdx_input_sources.specs.declared.taps.Taps.{Taps}
 use Rattle.afdx_command_conform.specs.declared.streams.Streams.{Streams}
 
@@ -26,7 +26,7 @@ told-rules same rules = record {
   taps = ap (λ (s : Streams). s.taps) same ∙ rules.taps;
 }
 
-module _ (r : Rows × Choices) (start : Option (List ℕ)) (frames : List Frame) (j k : Judging) where
+module _ (r : Rows × Choices) (start : Option (List ℕ)) (frames : List Frame) (j k : JudgingRun) where
   chosen-same : k.streams.taps ≡ j.streams.taps → k.choices ≡ j.choices
       → choices_of (taps_in j.streams.taps.now) j.choices.now ≡ r.1
       → choices_of (taps_in k.streams.taps.now) k.choices.now ≡ r.1
@@ -101,7 +101,7 @@ unfolding is_missed
 missed-in t c x is e f = rw e f
 
 -- one more frame is taken: `l` is what then works, at its time
-pub tells-next : (r : Rows × Choices) (start : Option (List ℕ)) (frames : List Frame) (j k l : Judging)
+pub tells-next : (r : Rows × Choices) (start : Option (List ℕ)) (frames : List Frame) (j k l : JudgingRun)
     (output : Option (List ℕ)) (lines : List ConformLine) (x : Frame) → IsSameButTaken j k
     → l.streams ≡ k.streams
     → l.choices ≡ k.choices → l.findings ≡ k.findings → l.left_out ≡ k.left_out → l.latest ≡ x.arrival.time
@@ -130,7 +130,8 @@ tells-next r start frames j k l output lines x others streams choices findings l
     }
 
 -- nothing is told
-pub tells-none : (r : Rows × Choices) (judging : Judging) (output : Option (List ℕ)) → judging.streams.tables.now ≡ r.0
+pub tells-none : (r : Rows × Choices) (judging : JudgingRun) (output : Option (List ℕ)) → judging.streams.tables.now ≡
+    r.0
     → choices_of (taps_in judging.streams.taps.now) judging.choices.now ≡ r.1
     → judging.findings ≡ 0 → judging.left_out ≡ 0 → judging.latest ≡ 0 → TellsOf r [] judging output output []
 tells-none r judging output tables choices none some at = record {

@@ -18,7 +18,7 @@ use Rattle.afdx_command_conform.specs.Slots.{StreamEnds}
 use Rattle.afdx_command_conform.specs.Tapped.{is_judged, unseen_of}
 use Rattle.afdx_command_conform.specs.Telling.{findings_in, most_counted}
 use Rattle.afdx_command_conform.specs.Waiting.{slot_due}
-use Rattle.afdx_command_conform.specs.declared.kept.Kept.{Kept}
+use Rattle.afdx_command_conform.specs.declared.kept.KeptByKey.{KeptByKey}
 use Rattle.afdx_command_conform.specs.declared.key.Key.{Key}
 use Rattle.afdx_command_conform.specs.declared.totals.Totals.{Totals}
 
@@ -95,7 +95,7 @@ module _ (t : Rows) (c : Choices) (until : ℕ) (frames : List Frame) where
   counted_of = both_counted (counted_among A t.links) (counted_among B t.links)
 
   -- the events of each stream are over
-  abbrev pub AreEnded : Kept → Type 0
+  abbrev pub AreEnded : KeptByKey → Type 0
   AreEnded kept = (k : Key) (l : LinkRow) → IsStreamOf t k l
       → (slot_due (slot_at kept.slots.items k) ≡ None)
       × (lines : List Due) × StreamEnds (terms_at t c until l k.port) k (given_of t c frames k).came

@@ -1,10 +1,10 @@
 -- What a run works with.
 use Rattle.std.specs.Prelude.{◌≡◌}
 use Rattle.afdx_command_conform.specs.Standing.{IsSameButKept}
-use Rattle.afdx_command_conform.specs.declared.judging.Judging.{Judging}
+use Rattle.afdx_command_conform.specs.declared.judging.JudgingRun.{JudgingRun}
 
 -- but for the number of findings
-pub record IsSameButFindings (old new : Judging) : Type 0 where
+pub record IsSameButFindings (old new : JudgingRun) : Type 0 where
   pub choices : new.choices ≡ old.choices
   pub streams : new.streams ≡ old.streams
   pub latest : new.latest ≡ old.latest
@@ -12,7 +12,7 @@ pub record IsSameButFindings (old new : Judging) : Type 0 where
   pub is_over : new.is_over ≡ old.is_over
 
 -- but for what is kept of the streams and what is left out
-pub record IsSameButTaken (old new : Judging) : Type 0 where
+pub record IsSameButTaken (old new : JudgingRun) : Type 0 where
   pub choices : new.choices ≡ old.choices
   pub rules : IsSameButKept old.streams new.streams
   pub latest : new.latest ≡ old.latest

@@ -16,8 +16,8 @@ use Rattle.afdx_command_conform.specs.Lines.{AreInOrder, Due, last_rank, of_key,
 use Rattle.afdx_command_conform.specs.Tapped.{judged_to}
 use Rattle.afdx_command_conform.specs.Slots.{AreFalling, StrangersStand, StreamEnds, StreamStands}
 use Rattle.afdx_command_conform.specs.Waiting.{slot_due}
-use Rattle.afdx_command_conform.specs.declared.agenda.Entry.{Entry}
-use Rattle.afdx_command_conform.specs.declared.kept.Kept.{Kept}
+use Rattle.afdx_command_conform.specs.declared.agenda.AgendaEntry.{AgendaEntry}
+use Rattle.afdx_command_conform.specs.declared.kept.KeptByKey.{KeptByKey}
 use Rattle.afdx_command_conform.specs.declared.key.Key.{Key}
 use Rattle.afdx_command_conform.specs.declared.slot.Slot.{Slot}
 use Rattle.afdx_command_conform.specs.declared.slot.Slot.TheVariants.{Nothing}
@@ -85,7 +85,7 @@ IsStreamOf t k l = IsOfLink t k l k.link
 abbrev pub slot_at : List Slot → Key → Slot
 slot_at slots k = get_or slots (key_place k) Nothing
 
-abbrev pub kept_with : Vec Slot Global → List Entry → Kept
+abbrev pub kept_with : Vec Slot Global → List AgendaEntry → KeptByKey
 kept_with slots agenda = record { slots = slots; agenda = agenda }
 
 -- a time is said, no later than this one
@@ -103,7 +103,7 @@ module _ (t : Rows) where
   is_known k = is_known_by k k.link
 
   -- none of them is due before that time, or at all
-  abbrev pub IsNothingDue : Option ℕ → Kept → Type 0
+  abbrev pub IsNothingDue : Option ℕ → KeptByKey → Type 0
   IsNothingDue before kept = (k : Key) (m : ℕ) → is_known k ≡ true
       → slot_due (slot_at kept.slots.items k) ≡ Some m → is_before before (awaited m k) ≡ false
 
@@ -129,7 +129,7 @@ module _ (t : Rows) (c : Choices) (until : ℕ) where
     KeyStands k given lines slot = KeyStandsBy k given lines slot k.link
 
     -- of each key what it is given is kept; what is due is awaited, behind what is told
-    pub record AreKept (given : Key → Given) (lines : List Due) (kept : Kept) : Type 0 where
+    pub record AreKept (given : Key → Given) (lines : List Due) (kept : KeptByKey) : Type 0 where
       pub stand : (k : Key) → is_known t k ≡ true
           → KeyStands k (given k) (of_key k lines) (slot_at kept.slots.items k)
       pub none : (k : Key) → is_known t k ≡ false → of_key k lines ≡ []

@@ -10,7 +10,7 @@ use Rattle.afdx_command_conform.specs.Keeping.{AreKept, given_of}
 use Rattle.afdx_command_conform.specs.Lines.{Due}
 use Rattle.afdx_command_conform.specs.Tapped.{taps_in}
 use Rattle.afdx_conform.specs.declared.spare.Spare.{Spare}
-use Rattle.afdx_command_conform.specs.declared.kept.Kept.{Kept}
+use Rattle.afdx_command_conform.specs.declared.kept.KeptByKey.{KeptByKey}
 use Rattle.afdx_command_conform.specs.declared.streams.Streams.{Streams}
 
 -- but for what is kept, and the end
@@ -18,7 +18,7 @@ pub record IsSameButKept (old new : Streams) : Type 0 where
   pub tables : new.tables ≡ old.tables
   pub taps : new.taps ≡ old.taps
 
-abbrev pub streams_with : Streams → Spare → Kept → Streams
+abbrev pub streams_with : Streams → Spare → KeptByKey → Streams
 streams_with s spare kept = record s { spare = spare; kept = kept }
 
 -- none of these frames is of a later time

@@ -18,10 +18,10 @@ use Rattle.afdx_conform.specs.Standing.{StandsFor, due_of}
 use Rattle.afdx_conform.specs.Streams.{Gone}
 use Rattle.afdx_conform.specs.declared.arrived.Arrived.{Arrived}
 use Rattle.afdx_conform.specs.declared.leeway.Leeway.{Leeway}
-use Rattle.afdx_conform.specs.declared.limits.Frame as left
+use Rattle.afdx_conform.specs.declared.limits.LeftFrame as left
 use Rattle.afdx_conform.specs.declared.streaming.Stream.{Stream}
 use Rattle.afdx_frame.specs.declared.link.Side.{Side}
-use Rattle.afdx_input_runs.specs.Joining.{Frame}
+use Rattle.afdx_input_runs.specs.Joining.{LeftFrame}
 use Rattle.afdx_police.specs.Arrival.{Arrival}
 use Rattle.afdx_command_conform.specs.Awaited.{rank_of}
 use Rattle.afdx_command_conform.specs.Choices.{Choices, counts}
@@ -32,8 +32,8 @@ use Rattle.afdx_command_conform.specs.Lines.{Due}
 use Rattle.afdx_command_conform.specs.Slots.{AreFalling, IsStrange, IsStream, told_at, waiting_due}
 use Rattle.afdx_command_conform.specs.Standing.{IsBehindAll, StreamsStand}
 use Rattle.afdx_command_conform.specs.Tapped.{place_named}
-use Rattle.afdx_command_conform.specs.declared.agenda.Entry.{Entry}
-use Rattle.afdx_command_conform.specs.declared.kept.Kept.{Kept}
+use Rattle.afdx_command_conform.specs.declared.agenda.AgendaEntry.{AgendaEntry}
+use Rattle.afdx_command_conform.specs.declared.kept.KeptByKey.{KeptByKey}
 use Rattle.afdx_command_conform.specs.declared.kept.Lines.{Lines}
 use Rattle.afdx_command_conform.specs.declared.key.Key.{Key}
 use Rattle.afdx_command_conform.specs.declared.strangers.Stranger.{Stranger}
@@ -45,7 +45,7 @@ key_to t side link system = key_with side (port_of t system) (Some link)
 
 -- ---- of one key
 
-module _ (done : Type 0 → Type 0) (old new : Kept) where
+module _ (done : Type 0 → Type 0) (old new : KeptByKey) where
   -- a stream of which nothing came is kept in the place of none
   abbrev pub PutsStream : Key → Stream → Type 0
   PutsStream key stream =
@@ -69,7 +69,7 @@ module _ (done : Type 0 → Type 0) (old new : Kept) where
       done (AreKept t c until None time (with_came key (arrival_of arrived) given) lines new)
 
   -- so is a frame
-  abbrev pub AddsFrame : Key → left.Frame → Type 0
+  abbrev pub AddsFrame : Key → left.LeftFrame → Type 0
   AddsFrame key frame =
       (t : Rows) (c : Choices) (until time : ℕ) (given : Key → Given) (lines : List Due)
       (l : LinkRow) → IsLawfulSwitch t → IsStreamOf t key l →
@@ -138,10 +138,11 @@ module _ (done : Type 0 → Type 0) (old new : Kept) where
         new)
 
 -- what is due first is told, and stands on the agenda no more
-abbrev pub TellsFirst : ((Lines → Type 0) → Type 0) → Kept → Kept → Entry → Option ℕ → Type 0
+abbrev pub TellsFirst : ((Lines → Type 0) → Type 0) → KeptByKey → KeptByKey → AgendaEntry → Option ℕ
+    → Type 0
 TellsFirst done old new entry ended =
     (t : Rows) (c : Choices) (until time : ℕ) (given : Key → Given) (lines : List Due)
-    (whole : List Entry) → IsLawfulSwitch t → IsKey entry.key →
+    (whole : List AgendaEntry) → IsLawfulSwitch t → IsKey entry.key →
     IsPermutation whole (entry ∷ old.agenda) →
     All (λ y. rank_of entry ≤ rank_of y) old.agenda →
     (ended ≡ None → entry.moment < time) →
@@ -153,9 +154,9 @@ TellsFirst done old new entry ended =
 
 -- a frame that counts, of no earlier time than those before it, is the newest that they stand for;
 -- `named` is the place of the link that it names
-abbrev pub StandsForMore : (Type 0 → Type 0) → Streams → Streams → Option ℕ → Frame → Type 0
+abbrev pub StandsForMore : (Type 0 → Type 0) → Streams → Streams → Option ℕ → LeftFrame → Type 0
 StandsForMore done old new named x =
-    (t : Rows) (c : Choices) (until time : ℕ) (frames : List Frame) (lines : List Due) →
+    (t : Rows) (c : Choices) (until time : ℕ) (frames : List LeftFrame) (lines : List Due) →
     named ≡ place_named old.tables.now x.arrival.bytes → counts t c x ≡ true →
     time ≤ x.arrival.time → IsBehindAll x.arrival.time frames → length frames + 1 < most_held →
     old.ended ≡ None → StreamsStand t c until frames lines time old →

@@ -19,11 +19,11 @@ pub use Rattle.afdx_command_conform.specs.Lines.{Due, lines_of}
 use Rattle.afdx_command_conform.specs.Standing.{IsBehindAll, StreamsStand}
 use Rattle.afdx_command_conform.specs.Tapped.{taps_in}
 use Rattle.afdx_command_conform.specs.declared.streams.Streams.{Streams}
-use Rattle.afdx_command_conform.specs.declared.judging.Judging.{Judging}
+use Rattle.afdx_command_conform.specs.declared.judging.JudgingRun.{JudgingRun}
 
 -- it works by these tables and choices, these lines are written, and so many of them are counted as
 -- findings; of the frames so many are left out, and that is the time of the last
-pub record TellsOf (k : Rows × Choices) (frames : List Frame) (judging : Judging)
+pub record TellsOf (k : Rows × Choices) (frames : List Frame) (judging : JudgingRun)
     (old new : Option (List ℕ)) (lines : List ConformLine) : Type 0 where
   pub tables_are : judging.streams.tables.now ≡ k.0
   pub choices_are : choices_of (taps_in judging.streams.taps.now) judging.choices.now ≡ k.1
@@ -57,7 +57,7 @@ IsEnding false said frames time end = (said ≡ Some end) × (end < time)
 IsEnding true said frames time end = end ≡ until_or said frames
 
 -- the streams stand for these frames, which go by time, and these lines, whichever end comes
-pub record Stands (k : Rows × Choices) (last : Bool) (time : ℕ) (j : Judging)
+pub record Stands (k : Rows × Choices) (last : Bool) (time : ℕ) (j : JudgingRun)
     (frames : List Frame) (lines : List ConformLine) : Type 0 where
   pub all : (until : ℕ) → MayEnd k.1.until frames j.streams.ended until
       → StandsIf k.0 k.1 last until frames lines time j.streams
@@ -67,7 +67,7 @@ pub record Stands (k : Rows × Choices) (last : Bool) (time : ℕ) (j : Judging)
   pub over : j.is_over ≡ is_some j.streams.ended
 
 -- that is written
-abbrev pub TellsAll : Rows × Choices → (last : Bool) → (time : ℕ) → Judging →
+abbrev pub TellsAll : Rows × Choices → (last : Bool) → (time : ℕ) → JudgingRun →
     (old new : Option (List ℕ)) → List Frame → Type 0
 TellsAll k last time j old new frames =
     (lines : List ConformLine) × TellsOf k frames j old new lines
@@ -86,12 +86,12 @@ pub record GoesOn (k : Rows × Choices) (last : Bool) (time to : ℕ) (before en
 abbrev pub HasBegun : Rows × Choices → (last : Bool) → (time : ℕ) → (ended : Option ℕ) →
     (old new : Option (List ℕ)) → List Frame → Type 0
 HasBegun k last time ended old new frames =
-    (j : Judging) × (lines : List ConformLine) × AppendsFront old new (lines_text lines)
+    (j : JudgingRun) × (lines : List ConformLine) × AppendsFront old new (lines_text lines)
     × (j.streams.ended ≡ ended) × Stands k last time j frames lines
 
 -- of the frames of a run: all lines of moments before the time of the last one are written,
 -- whatever comes
-abbrev pub TellsItems : Rows × Choices → Judging → Option (List ℕ) → Option (List ℕ) →
+abbrev pub TellsItems : Rows × Choices → JudgingRun → Option (List ℕ) → Option (List ℕ) →
     List (Item Seen) → Type 0
 TellsItems k j old new past =
     (lines : List ConformLine) × TellsOf k (frames_of past) j old new lines
@@ -99,7 +99,7 @@ TellsItems k j old new past =
     × AreEarly k (latest_of (frames_of past)) (frames_of past) lines
 
 -- and at the end, once nothing is due
-abbrev pub TellsToEnd : Rows × Choices → Judging → Option (List ℕ) → Option (List ℕ) →
+abbrev pub TellsToEnd : Rows × Choices → JudgingRun → Option (List ℕ) → Option (List ℕ) →
     List (Item Seen) → Type 0
 TellsToEnd k j old new past = (time : ℕ) × TellsAll k true time j old new (frames_of past)
     × (is_some j.streams.ended ≡ true) × IsNothingDue k.0 None j.streams.kept
@@ -109,7 +109,7 @@ TellsToEnd k j old new past = (time : ℕ) × TellsAll k true time j old new (fr
 
 -- the recordings end at `until`, as may be said, and no frame is of a later time: the same is told,
 -- up to no earlier time, and the end is known
-abbrev pub ClosesAt : (Type 0 → Type 0) → (until : ℕ) → Judging → Judging →
+abbrev pub ClosesAt : (Type 0 → Type 0) → (until : ℕ) → JudgingRun → JudgingRun →
     (before after : Option (List ℕ)) → Type 0
 ClosesAt done until old new before after =
     (k : Rows × Choices) (last : Bool) (time to : ℕ) (start : Option (List ℕ))
@@ -122,7 +122,7 @@ ClosesAt done until old new before after =
 
 -- a frame of this time, which isn't earlier than those before it, is the newest of those that the
 -- streams stand for
-abbrev pub TakesNext : (Type 0 → Type 0) → Judging → Judging → (time : ℕ) → Frame → Type 0
+abbrev pub TakesNext : (Type 0 → Type 0) → JudgingRun → JudgingRun → (time : ℕ) → Frame → Type 0
 TakesNext done old new time x =
     (k : Rows × Choices) (frames : List Frame) (lines : List ConformLine) →
     old.streams.tables.now ≡ k.0 →

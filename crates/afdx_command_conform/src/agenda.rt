@@ -18,14 +18,14 @@ use std::marker::Model;
 
 /// At this moment, in ns, something is to be told of a key.
 #[derive(Clone, Copy, Debug)]
-pub(crate) struct Entry {
+pub(crate) struct AgendaEntry {
     pub(crate) moment: u64,
     pub(crate) key: Key,
 }
 
-impl Entry {
+impl AgendaEntry {
     /// How it comes to another: by moment, and at one moment by key.
-    fn order(&self, other: &Entry) -> Ordering
+    fn order(&self, other: &AgendaEntry) -> Ordering
         ensures { result ≡ nat_cmp (spec.rank_of self.now) (spec.rank_of other.now) }
     {
         are_small(self.key);
@@ -40,33 +40,33 @@ impl Entry {
     }
 }
 
-impl PartialEq for Entry {
+impl PartialEq for AgendaEntry {
     ghost eq = { spec.is_same_rank };
 
     ghost laws = { Prim.search (comparing, rules) };
 
-    fn eq(&self, other: &Entry) -> bool {
+    fn eq(&self, other: &AgendaEntry) -> bool {
         self.order(other).is_eq()
     }
 }
 
-impl Eq for Entry {
+impl Eq for AgendaEntry {
     ghost laws = { Prim.search (comparing, rules) };
 }
 
-impl PartialOrd for Entry {
+impl PartialOrd for AgendaEntry {
     ghost partial_cmp = { as_partial_cmp spec.by_rank };
 
     ghost laws = { partial_order_from_own_ties (Prim.search (comparing, rules))
         (Prim.search (comparing, rules)) };
 
-    fn partial_cmp(&self, other: &Entry) -> Option<Ordering> {
+    fn partial_cmp(&self, other: &AgendaEntry) -> Option<Ordering> {
         Some(self.cmp(other))
     }
 }
 
 // The one that comes first is the greatest, as a heap has it.
-impl Ord for Entry {
+impl Ord for AgendaEntry {
     ghost cmp = { spec.by_rank };
 
     ghost total = { Prim.search (comparing, rules) };
@@ -75,13 +75,13 @@ impl Ord for Entry {
 
     ghost matches_eq = { Prim.search (comparing, rules) };
 
-    fn cmp(&self, other: &Entry) -> Ordering {
+    fn cmp(&self, other: &AgendaEntry) -> Ordering {
         other.order(self)
     }
 }
 
 /// Whether an entry's moment lies before a time; without one, always.
-fn is_before(entry: &Entry, before: Option<u64>) -> bool
+fn is_before(entry: &AgendaEntry, before: Option<u64>) -> bool
     ensures { result ≡ spec.is_before before entry.now }
 {
     match before {
@@ -93,14 +93,14 @@ fn is_before(entry: &Entry, before: Option<u64>) -> bool
 /// What is to be told. What is known of it is a list, in any order.
 #[derive(Drop)]
 pub(crate) struct Agenda {
-    heap: BinaryHeap<Entry>,
+    heap: BinaryHeap<AgendaEntry>,
 }
 
 impl Model for Agenda {
     ghost use Rattle.std.specs.Prelude.{List};
     ghost use Rattle.std.specs.BinaryHeap.{IsHeap, heap_items};
     ghost use Rattle.afdx_command_conform.specs.Awaited.{AreKeys, by_rank};
-    ghost use Rattle.afdx_command_conform.specs.declared.agenda.Entry.{Entry as Awaited};
+    ghost use Rattle.afdx_command_conform.specs.declared.agenda.AgendaEntry.{AgendaEntry as Awaited};
 
     ghost Value = { List Awaited };
 
@@ -125,13 +125,13 @@ impl Agenda {
         ensures { OnOk result (IsPermutation (awaited moment key ∷ self.old) self.new) }
     {
         are_small(key);
-        self.heap.push(Entry { moment, key })?;
+        self.heap.push(AgendaEntry { moment, key })?;
         Ok(())
     }
 
     /// Takes out what is to be told first, if its moment lies before that time; without a time
     /// whenever it is.
-    pub(crate) fn take_before(&mut self, before: Option<u64>) -> Option<Entry>
+    pub(crate) fn take_before(&mut self, before: Option<u64>) -> Option<AgendaEntry>
         ensures first { IfSome result (λ x. All (λ y. spec.rank_of x ≤ spec.rank_of y) self.new) }
         ensures in_time { IfSome result (IsBefore before) }
         ensures rest { IfSome result (λ x. IsPermutation self.old (x ∷ self.new)) }

@@ -10,7 +10,7 @@ ghost use Rattle.afdx_command_conform.specs.Counting.{counted_among, counted_at,
 ghost use Rattle.afdx_command_conform.specs.Counting.{none_counted};
 ghost use Rattle.afdx_command_conform.specs.Tapped.{taps_in};
 
-use crate::kept::Kept;
+use crate::kept::KeptByKey;
 use crate::key::Key;
 use crate::outlets::receiver;
 use crate::tapped::is_judged;
@@ -23,7 +23,7 @@ use afdx_input_sources::Taps;
 fn count_at(
     tables: &Tables,
     taps: &Taps,
-    kept: &Kept,
+    kept: &KeptByKey,
     side: Side,
     link: usize,
     system: SystemId,
@@ -53,7 +53,14 @@ fn count_at(
 }
 
 /// What is counted of a link's streams on a side.
-fn count_to(tables: &Tables, taps: &Taps, kept: &Kept, side: Side, link: usize, totals: &mut Totals)
+fn count_to(
+    tables: &Tables,
+    taps: &Taps,
+    kept: &KeptByKey,
+    side: Side,
+    link: usize,
+    totals: &mut Totals,
+)
     requires { link < length tables.now.links }
     ensures findings { totals.new.findings ≡ totals.old.findings }
     ensures left_out { totals.new.left_out ≡ totals.old.left_out }
@@ -72,7 +79,7 @@ fn count_to(tables: &Tables, taps: &Taps, kept: &Kept, side: Side, link: usize, 
 }
 
 /// What is counted of all streams on a side.
-fn count_on(tables: &Tables, taps: &Taps, kept: &Kept, side: Side, totals: &mut Totals)
+fn count_on(tables: &Tables, taps: &Taps, kept: &KeptByKey, side: Side, totals: &mut Totals)
     ensures findings { totals.new.findings ≡ totals.old.findings }
     ensures left_out { totals.new.left_out ≡ totals.old.left_out }
     ensures unseen { totals.new.unseen ≡ totals.old.unseen }
@@ -89,7 +96,7 @@ fn count_on(tables: &Tables, taps: &Taps, kept: &Kept, side: Side, totals: &mut 
 }
 
 /// What is counted of all streams, on both sides.
-pub(crate) fn count_streams(tables: &Tables, taps: &Taps, kept: &Kept, totals: &mut Totals)
+pub(crate) fn count_streams(tables: &Tables, taps: &Taps, kept: &KeptByKey, totals: &mut Totals)
     ensures findings { totals.new.findings ≡ totals.old.findings }
     ensures left_out { totals.new.left_out ≡ totals.old.left_out }
     ensures unseen { totals.new.unseen ≡ totals.old.unseen }

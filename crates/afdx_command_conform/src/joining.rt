@@ -17,12 +17,12 @@ ghost use Rattle.afdx_command_conform.specs.Slots.{IsStrange, IsStream};
 ghost use Rattle.afdx_command_conform.specs.Taking.{MakesStream, TakesArrival, TakesFrame};
 ghost use Rattle.afdx_command_conform.specs.Taking.{TakesStranger};
 
-use crate::kept::Kept;
+use crate::kept::KeptByKey;
 use crate::key::Key;
 use crate::outlets::{new_stream, rule_at};
 use crate::strangers::Stranger;
 use afdx_config::{SystemId, Tables};
-use afdx_conform::{Arrived, CheckedBytes, Frame, Leeway};
+use afdx_conform::{Arrived, CheckedBytes, Leeway, LeftFrame};
 use afdx_frame::Side;
 use afdx_input_lines::Heading;
 use std::alloc::{AllocError, Global};
@@ -35,7 +35,7 @@ fn make_stream(
     alloc: Global,
     tables: &Tables,
     leeway: Leeway,
-    kept: &mut Kept,
+    kept: &mut KeptByKey,
     link: usize,
     system: SystemId,
     key: Key,
@@ -54,7 +54,7 @@ fn stream_to(
     alloc: Global,
     tables: &Tables,
     leeway: Leeway,
-    kept: &mut Kept,
+    kept: &mut KeptByKey,
     link: usize,
     system: SystemId,
     side: Side,
@@ -86,7 +86,7 @@ pub(crate) fn come_to(
     alloc: Global,
     tables: &Tables,
     leeway: Leeway,
-    kept: &mut Kept,
+    kept: &mut KeptByKey,
     link: usize,
     system: SystemId,
     n: u64,
@@ -111,11 +111,11 @@ pub(crate) fn leave_to(
     alloc: Global,
     tables: &Tables,
     leeway: Leeway,
-    kept: &mut Kept,
+    kept: &mut KeptByKey,
     link: usize,
     system: SystemId,
     side: Side,
-    frame: Frame,
+    frame: LeftFrame,
 ) -> Result<(), AllocError>
     requires link { link < length tables.now.links }
     requires system { system.0 < length tables.now.systems }
@@ -127,7 +127,7 @@ pub(crate) fn leave_to(
 }
 
 /// Room for frames of no stream of the key is made if none was.
-fn strangers_at(alloc: Global, kept: &mut Kept, key: Key) -> Result<(), AllocError>
+fn strangers_at(alloc: Global, kept: &mut KeptByKey, key: Key) -> Result<(), AllocError>
     ensures { (t : Rows) (c : Choices) (until time : ℕ) (given : Key → Given) (lines : List Due) →
         IsLawfulSwitch t → key.link ≡ None → is_known t key ≡ true →
         AreKept t c until None time given lines kept.old →
@@ -145,7 +145,7 @@ fn strangers_at(alloc: Global, kept: &mut Kept, key: Key) -> Result<(), AllocErr
 #[inline(never)]
 pub(crate) fn leave_strange(
     alloc: Global,
-    kept: &mut Kept,
+    kept: &mut KeptByKey,
     side: Side,
     port: u8,
     stranger: Stranger,

@@ -47,7 +47,7 @@ const MOST_BYTES: u64 = 65_535;
 /// What a run works with: what is asked for, the streams, the time of the last line in ns, and how
 /// many findings were told and lines left out.
 #[derive(Drop)]
-pub(crate) struct Judging<'a> {
+pub(crate) struct JudgingRun<'a> {
     alloc: Global,
     choices: &'a Choices,
     streams: Streams<'a>,
@@ -57,20 +57,20 @@ pub(crate) struct Judging<'a> {
     is_over: bool,
 }
 
-impl<'a> Judging<'a> {
+impl<'a> JudgingRun<'a> {
     /// It has told nothing yet.
     pub(crate) fn new(
         alloc: Global,
         tables: &'a Tables,
         choices: &'a Choices,
         taps: &'a Taps,
-    ) -> Result<Judging<'a>, AllocError>
+    ) -> Result<JudgingRun<'a>, AllocError>
         ensures { (output : Option (List ℕ)) → IfOk result (λ judging.
             TellsItems (tables.entry.now, choices_of (taps_in taps.entry.now) choices.entry.now)
             judging output output []) }
     {
         let streams = Streams::new(alloc, tables, choices.leeway, taps)?;
-        Ok(Judging {
+        Ok(JudgingRun {
             alloc,
             choices,
             streams,
@@ -295,7 +295,7 @@ impl<'a> Judging<'a> {
     }
 }
 
-impl Machine<Seen> for Judging<'_> {
+impl Machine<Seen> for JudgingRun<'_> {
     ghost use Rattle.afdx_command_conform.specs.Choices.{Choices as Chosen};
     ghost use Rattle.afdx_command_conform.specs.Told.{TellsItems, TellsToEnd};
     ghost use Rattle.afdx_command_conform.specs.Written.{BeginsWritten};

@@ -19,12 +19,12 @@ ghost use Rattle.afdx_command_conform.specs.Taking.{AddsArrival, AddsFrame, Adds
 ghost use Rattle.afdx_command_conform.specs.Taking.{TellsFirst};
 ghost use Rattle.afdx_command_conform.specs.Waiting.{left_in, slot_due};
 
-use crate::agenda::{Agenda, Entry};
+use crate::agenda::{Agenda, AgendaEntry};
 use crate::key::Key;
 use crate::slot::{Slot, add_arrival, add_frame, add_stranger, end_at, step};
 use crate::strangers::{Stranger, Strangers};
 use crate::totals::Totals;
-use afdx_conform::{Arrived, Frame, Spare, Stream};
+use afdx_conform::{Arrived, LeftFrame, Spare, Stream};
 use afdx_text::ConformLine;
 use std::alloc::{AllocError, Global};
 
@@ -38,7 +38,7 @@ pub(crate) struct Lines {
 
 /// What is kept of each key, at its place, and what is to be told of it.
 #[derive(Drop)]
-pub(crate) struct Kept {
+pub(crate) struct KeptByKey {
     slots: Vec<Slot>,
     agenda: Agenda,
 }
@@ -56,7 +56,7 @@ fn new_slots(alloc: Global, count: usize) -> Result<Vec<Slot>, AllocError>
 }
 
 /// Whether that is what is due there.
-fn is_due(slots: &[Slot], entry: &Entry) -> bool
+fn is_due(slots: &[Slot], entry: &AgendaEntry) -> bool
     ensures within { IsTrue result → key_place entry.now.key < length slots.now }
     ensures due { IsTrue result
         ↔ (slot_due (slot_at slots.now entry.now.key) ≡ Some entry.now.moment) }
@@ -89,14 +89,14 @@ fn has_stream(slots: &[Slot], key: Key) -> bool
     slots[place].is_stream()
 }
 
-impl Kept {
+impl KeptByKey {
     /// Nothing came, of so many places.
-    pub(crate) fn new(alloc: Global, count: usize) -> Result<Kept, AllocError>
+    pub(crate) fn new(alloc: Global, count: usize) -> Result<KeptByKey, AllocError>
         ensures { (t : Rows) (c : Choices) (until time : ℕ) → count ≡ 512 + 64 * length t.links →
             IfOk result (λ kept. AreKept t c until None time nothing_given [] kept) }
     {
         let slots = new_slots(alloc, count)?;
-        Ok(Kept {
+        Ok(KeptByKey {
             slots,
             agenda: Agenda::new(alloc),
         })
@@ -140,7 +140,7 @@ impl Kept {
     }
 
     /// A frame of the stream of the key left.
-    pub(crate) fn add_frame(&mut self, key: Key, frame: Frame) -> Result<(), AllocError>
+    pub(crate) fn add_frame(&mut self, key: Key, frame: LeftFrame) -> Result<(), AllocError>
         ensures { AddsFrame (λ done. OnOk result done) self.old self.new key frame }
     {
         let place = key.place();
@@ -196,7 +196,7 @@ impl Kept {
         &mut self,
         alloc: Global,
         spare: &mut Spare,
-        entry: &Entry,
+        entry: &AgendaEntry,
         ended: Option<u64>,
     ) -> Result<Lines, AllocError>
         requires within { key_place entry.now.key < length self.old.slots.items }

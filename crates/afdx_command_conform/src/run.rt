@@ -8,7 +8,7 @@ ghost use Rattle.afdx_input_lines.specs.Calls.{is_failed_read, is_failed_write};
 ghost use Rattle.afdx_input_sources.specs.Claims.{ports_of_one};
 
 use crate::choices::Choices;
-use crate::judging::Judging;
+use crate::judging::JudgingRun;
 use crate::totals::Totals;
 use afdx_config::Tables;
 use afdx_input_lines::{RecordingFault, RunFault};
@@ -82,7 +82,7 @@ pub fn run_conform<P: Drop, A: SeenFrames<P>, O: Sink>(
     // (a law of the inputs: where memory is wanting at once nothing is taken)
     A::starts();
     let taps = A::taps(&options);
-    let mut judging = Judging::new(alloc, tables, choices, &taps)?;
+    let mut judging = JudgingRun::new(alloc, tables, choices, &taps)?;
     let unsaid = UnsaidPort::OfSender(tables);
     let count = inputs.tell_all(alloc, options, unsaid, &mut judging, output)?;
     let totals = judging.totals();

@@ -18,7 +18,7 @@ ghost use Rattle.afdx_command_conform.specs.Slots.{StreamStands, told_at, unsure
 
 use crate::key::Key;
 use crate::strangers::{Stranger, Strangers};
-use afdx_conform::{Arrived, Finding, Frame, Spare, Strangeness, Stream};
+use afdx_conform::{Arrived, Finding, LeftFrame, Spare, Strangeness, Stream};
 use afdx_text::{ConformLine, StrangeReason};
 use std::alloc::{AllocError, Global};
 
@@ -98,7 +98,7 @@ pub(crate) fn add_arrival(at: &mut Slot, arrived: Arrived) -> Result<Option<u64>
 
 /// A frame of a stream left. Gives the moment that is due then, if it wasn't before.
 #[tactic(auto, unfolding(crate::specs::Waiting::slot_due, crate::specs::Slots::StreamStands))]
-pub(crate) fn add_frame(at: &mut Slot, frame: Frame) -> Result<Option<u64>, AllocError>
+pub(crate) fn add_frame(at: &mut Slot, frame: LeftFrame) -> Result<Option<u64>, AllocError>
     ensures stands { (z : Terms) (k : Key) (xs : List Arrival) (ys : List Gone) (lines : List Due)
         (time : ℕ) → IsStream at.old → MayLeave z ys time (gone_of frame) →
         StreamStands z k xs ys lines time at.old →

@@ -24,13 +24,13 @@ ghost use Rattle.afdx_command_conform.specs.Waiting.{left_in};
 use crate::counting::count_streams;
 use crate::hints::Hints;
 use crate::joining::{come_to, leave_strange, leave_to};
-use crate::kept::{Kept, Lines};
+use crate::kept::{KeptByKey, Lines};
 use crate::outlets::{receiver, receiver_at};
 use crate::strangers::{Stranger, is_damaged, why_strange};
 use crate::tapped::{heard_outlet, is_heard, is_seen, unseen_of};
 use crate::totals::Totals;
 use afdx_config::Tables;
-use afdx_conform::{CheckedBytes, Frame, Leeway, Spare};
+use afdx_conform::{CheckedBytes, Leeway, LeftFrame, Spare};
 use afdx_frame::{Checked, Side, VlId};
 use afdx_input_lines::{Heading, Role};
 use afdx_input_sources::Taps;
@@ -47,7 +47,7 @@ pub(crate) struct Streams<'a> {
     taps: &'a Taps,
     hints: Hints,
     spare: Spare,
-    kept: Kept,
+    kept: KeptByKey,
     ended: Option<u64>,
 }
 
@@ -69,7 +69,7 @@ impl<'a> Streams<'a> {
     {
         // (those of `Key::place`)
         let count = 512 + 64 * tables.link_count();
-        let kept = Kept::new(alloc, count)?;
+        let kept = KeptByKey::new(alloc, count)?;
         Ok(Streams {
             alloc,
             tables,
@@ -185,7 +185,7 @@ impl<'a> Streams<'a> {
                 return Ok(());
             }
             let bytes = CheckedBytes::of(&mut self.spare, frame)?;
-            let left = Frame {
+            let left = LeftFrame {
                 number: n,
                 time,
                 bytes,

@@ -1,6 +1,6 @@
 //! The commands over a configuration alone.
 
-use crate::console::{Cause, Heard, Traced, error_lines, explain_if_asked, read_config};
+use crate::console::{Cause, Traced, WatchedWriter, error_lines, explain_if_asked, read_config};
 use crate::running::refuse;
 use afdx_command_tables::status::DONE;
 use afdx_command_words::{check_options, solve_options};
@@ -15,8 +15,8 @@ fn explain_end<O: Write + Drop, E: Write + Drop>(
     matches: &ArgMatches<'_>,
     config: &[u8],
     status: u8,
-    output: Watched<Heard<Traced<O>>>,
-    errors: Watched<Heard<E>>,
+    output: Watched<WatchedWriter<Traced<O>>>,
+    errors: Watched<WatchedWriter<E>>,
 ) -> u8 {
     let (output, errors) = (output.into_inner(), errors.into_inner());
     let cause = Cause {
@@ -42,8 +42,8 @@ pub fn check_config(rt: &HostRuntime, matches: &ArgMatches<'_>) -> u8 {
         Err(status) => return status,
     };
     let config = config.as_slice();
-    let mut output = Watched::new(Heard::new(Traced::new(rt.stdout())));
-    let mut errors = Watched::new(Heard::new(error_lines(rt)));
+    let mut output = Watched::new(WatchedWriter::new(Traced::new(rt.stdout())));
+    let mut errors = Watched::new(WatchedWriter::new(error_lines(rt)));
     let options = check_options(matches);
     let status = check_lines(rt.alloc(), options, config, &mut output, &mut errors);
     explain_end(rt, matches, config, status, output, errors)
@@ -56,8 +56,8 @@ pub fn solve_tables(rt: &HostRuntime, matches: &ArgMatches<'_>) -> u8 {
         Err(status) => return status,
     };
     let config = config.as_slice();
-    let mut output = Watched::new(Heard::new(Traced::new(rt.stdout())));
-    let mut errors = Watched::new(Heard::new(error_lines(rt)));
+    let mut output = Watched::new(WatchedWriter::new(Traced::new(rt.stdout())));
+    let mut errors = Watched::new(WatchedWriter::new(error_lines(rt)));
     let options = match solve_options(matches) {
         Ok(options) => options,
         Err(refused) => return refuse(rt, matches, refused),

@@ -2,8 +2,8 @@
 
 use crate::beginnings::{NoList, look_at_both};
 use crate::console::{
-    Cause, Cleared, Count, Counted, Heard, Input, Traced, error_lines, explain_if_asked, is_told,
-    memory,
+    Cause, Cleared, Count, Counted, InputDevice, Traced, WatchedWriter, error_lines,
+    explain_if_asked, is_told, memory,
 };
 use crate::running::{cause_in, failed_of, open, output_room, refuse};
 use afdx_command_conform::{ByRole, Choices, Judged, Leeway, conform};
@@ -84,7 +84,7 @@ fn end_judged<W: Write + Drop, E: Write + Drop>(
     judged: Judged,
     read: Cause<'_>,
     mut output: Output<Traced<W>>,
-    mut errors: Watched<Heard<Cleared<'_, E>>>,
+    mut errors: Watched<WatchedWriter<Cleared<'_, E>>>,
 ) -> u8 {
     let mut status = finish(judged.status, &mut output, &mut errors);
     let is_told = !output.failed() && wants_summary(matches);
@@ -115,7 +115,7 @@ fn judge_one(
     matches: &ArgMatches<'_>,
     config: &[u8],
     word: &str,
-    input: Input,
+    input: InputDevice,
 ) -> Result<u8, u8> {
     let options = taken(rt, matches, seen_options(rt.alloc(), matches))?;
     let choices = taken(rt, matches, choices_in(rt.alloc(), matches))?;
@@ -127,7 +127,7 @@ fn judge_one(
     let told = is_told(rt, matches);
     let count = Count::new(rt, told);
     let mut input = Watched::new(Traced::new(Counted::new(&count, input)));
-    let mut errors = Watched::new(Heard::new(Cleared::new(rt, told, error_lines(rt))));
+    let mut errors = Watched::new(WatchedWriter::new(Cleared::new(rt, told, error_lines(rt))));
     let judged = conform(
         rt.alloc(),
         &choices,
@@ -172,7 +172,7 @@ fn judge_two(
     matches: &ArgMatches<'_>,
     config: &[u8],
     words: ByRole<&str>,
-    inputs: ByRole<Input>,
+    inputs: ByRole<InputDevice>,
 ) -> Result<u8, u8> {
     let options = taken(rt, matches, seen_pair_options(rt.alloc(), matches))?;
     let choices = taken(rt, matches, choices_of_two(rt.alloc(), matches, &words))?;
@@ -188,7 +188,7 @@ fn judge_two(
         came: Watched::new(Peeked::new(Traced::new(Counted::new(&count, inputs.came)))),
         left: Watched::new(Peeked::new(Traced::new(Counted::new(&count, inputs.left)))),
     };
-    let mut errors = Watched::new(Heard::new(Cleared::new(rt, told, error_lines(rt))));
+    let mut errors = Watched::new(WatchedWriter::new(Cleared::new(rt, told, error_lines(rt))));
     let (alloc, switch) = (rt.alloc(), switch_in(matches));
     let (ins, outs, faults) = (&mut inputs, &mut output, &mut errors);
     let judged = match options {

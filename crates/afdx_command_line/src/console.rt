@@ -11,11 +11,11 @@ mod progress;
 mod telling;
 mod visible;
 
-pub(crate) use devices::{Heard, Input, Traced, name_of_input};
+pub(crate) use devices::{InputDevice, Traced, WatchedWriter, name_of_input};
 pub(crate) use explaining::{Cause, explain_if_asked, line_of, print_meaning};
 pub(crate) use files::{no_file, read_config};
 pub(crate) use lists::print_lists;
-pub(crate) use places::{Places, take_places};
+pub(crate) use places::{StandIns, take_places};
 pub(crate) use progress::{Cleared, Count, Counted, Notice, is_told};
 pub(crate) use telling::{complain, end_with, error_lines, memory, tell_text, tell_visible};
 pub(crate) use visible::visible_text;

@@ -9,4 +9,4 @@ mod switches;
 pub(crate) use lines::{Listing, wrong_field};
 pub(crate) use locating::place_in;
 pub(crate) use looks::{Look, look_of};
-pub(crate) use switches::Switches;
+pub(crate) use switches::FoundSwitches;

@@ -4,8 +4,8 @@ ghost use Rattle.std.specs.Prelude.{◌≡◌, Some, codes, false};
 ghost use Rattle.clap.specs.Words.{found_of, one_text};
 
 use crate::console::{
-    Cause, Cleared, Count, Counted, Heard, Input, Traced, complain, error_lines, explain_if_asked,
-    is_told, memory, name_of_input, no_file, tell_visible,
+    Cause, Cleared, Count, Counted, InputDevice, Traced, WatchedWriter, complain, error_lines,
+    explain_if_asked, is_told, memory, name_of_input, no_file, tell_visible,
 };
 use afdx_command_tables::status::{DONE, WRONG_WORDS};
 use afdx_command_words::{
@@ -55,7 +55,7 @@ pub fn end_run<W: Write + Drop, E: Write + Drop>(
     ended: InputEnded,
     read: Cause<'_>,
     mut output: Output<Traced<W>>,
-    mut errors: Watched<Heard<Cleared<'_, E>>>,
+    mut errors: Watched<WatchedWriter<Cleared<'_, E>>>,
 ) -> u8 {
     let status = finish(ended.ended.status, &mut output, &mut errors);
     let written = output.into_device().reason();
@@ -252,7 +252,7 @@ fn run_one(
     matches: &ArgMatches<'_>,
     run: &Run<'_>,
     list: &str,
-    input: Input,
+    input: InputDevice,
 ) -> u8 {
     let device = Traced::new(rt.stdout());
     let Ok(mut output) = Output::new(rt.alloc(), output_room(rt, matches), device) else {
@@ -266,7 +266,7 @@ fn run_one(
     let count = Count::new(rt, told);
     let device = Traced::new(Counted::new(&count, input));
     let mut input = Watched::new(Peeked::new(device));
-    let mut errors = Watched::new(Heard::new(Cleared::new(rt, told, error_lines(rt))));
+    let mut errors = Watched::new(WatchedWriter::new(Cleared::new(rt, told, error_lines(rt))));
     let ended = run_over(rt, run, options, &mut input, &mut output, &mut errors);
     let read = cause_in(run.config(), list, input.into_inner().into_inner());
     end_run(rt, matches, ended, read, output, errors)
@@ -279,7 +279,7 @@ fn run_two(
     matches: &ArgMatches<'_>,
     run: &Run<'_>,
     lists: BySide<&str>,
-    inputs: BySide<Input>,
+    inputs: BySide<InputDevice>,
 ) -> u8 {
     let device = Traced::new(rt.stdout());
     let Ok(mut output) = Output::new(rt.alloc(), output_room(rt, matches), device) else {
@@ -295,7 +295,7 @@ fn run_two(
         a: Watched::new(Traced::new(Counted::new(&count, inputs.a))),
         b: Watched::new(Traced::new(Counted::new(&count, inputs.b))),
     };
-    let mut errors = Watched::new(Heard::new(Cleared::new(rt, told, error_lines(rt))));
+    let mut errors = Watched::new(WatchedWriter::new(Cleared::new(rt, told, error_lines(rt))));
     let ended = run_over(rt, run, options, &mut inputs, &mut output, &mut errors);
     let (list, device) = failed_of(lists, inputs);
     let read = cause_in(run.config(), list, device);
@@ -304,8 +304,8 @@ fn run_two(
 
 /// The input that a word names, a file, or standard input, which is `-`. Err: the status where it
 /// can't be had.
-pub fn open(rt: &HostRuntime, matches: &ArgMatches<'_>, list: &str) -> Result<Input, u8> {
-    match Input::open(rt, list) {
+pub fn open(rt: &HostRuntime, matches: &ArgMatches<'_>, list: &str) -> Result<InputDevice, u8> {
+    match InputDevice::open(rt, list) {
         Ok(input) => Ok(input),
         Err(reason) => Err(no_file(rt, matches, "device List", list, reason)),
     }
@@ -344,7 +344,7 @@ pub fn run_sender(
     let told = is_told(rt, matches);
     let count = Count::new(rt, told);
     let mut input = Watched::new(Traced::new(Counted::new(&count, input)));
-    let mut errors = Watched::new(Heard::new(Cleared::new(rt, told, error_lines(rt))));
+    let mut errors = Watched::new(WatchedWriter::new(Cleared::new(rt, told, error_lines(rt))));
     let ended = InputEnded {
         ended: send_and_count(
             rt.alloc(),

@@ -11,7 +11,7 @@ ghost use Rattle.afdx_text.specs.Texts.{text_bytes};
 ghost use Rattle.afdx_command_tables.specs.CascadeText as spec;
 
 use crate::check_apart::put_admitted_cascade;
-use crate::check_tables::{Answer, CheckOptions, put_ports};
+use crate::check_tables::{CheckAnswer, CheckOptions, put_ports};
 use afdx_admit::{CascadeFault, admit_all, all_cascade_faults, way_latency};
 use afdx_config::{Link, SwitchId, Switches, SystemId, Tables};
 use afdx_frame::VlId;
@@ -230,20 +230,20 @@ fn put_first_of_cascade(
     margins: bool,
     text: &mut Text,
     switches: Switches,
-) -> Result<Answer, AllocError>
+) -> Result<CheckAnswer, AllocError>
     ensures text { OnOk result (text_bytes text.new ≡ text_bytes text.old
         ++ spec.cascade_answer_line margins switches (first_false (cascade_lines switches))) }
-    ensures admitted { result ≡ Ok Answer.Admitted → IsCascadeAdmitted switches }
-    ensures denied { result ≡ Ok Answer.Denied → IsCascadeAdmitted switches → ⊥ }
+    ensures admitted { result ≡ Ok CheckAnswer.Admitted → IsCascadeAdmitted switches }
+    ensures denied { result ≡ Ok CheckAnswer.Denied → IsCascadeAdmitted switches → ⊥ }
 {
     match admit_all(switches) {
         Ok(admitted) => {
             put_admitted_cascade(text, admitted.switches(), margins)?;
-            Ok(Answer::Admitted)
+            Ok(CheckAnswer::Admitted)
         }
         Err((switches, fault)) => {
             put_cascade_fault(alloc, text, &switches, fault)?;
-            Ok(Answer::Denied)
+            Ok(CheckAnswer::Denied)
         }
     }
 }
@@ -254,20 +254,20 @@ fn put_all_of_cascade(
     margins: bool,
     text: &mut Text,
     switches: &Switches,
-) -> Result<Answer, AllocError>
+) -> Result<CheckAnswer, AllocError>
     ensures text { OnOk result (text_bytes text.new ≡ text_bytes text.old
         ++ spec.cascade_answer_lines margins switches.now
         (false_lines (cascade_lines switches.now))) }
-    ensures admitted { result ≡ Ok Answer.Admitted → IsCascadeAdmitted switches.now }
-    ensures denied { result ≡ Ok Answer.Denied → IsCascadeAdmitted switches.now → ⊥ }
+    ensures admitted { result ≡ Ok CheckAnswer.Admitted → IsCascadeAdmitted switches.now }
+    ensures denied { result ≡ Ok CheckAnswer.Denied → IsCascadeAdmitted switches.now → ⊥ }
 {
     let faults = all_cascade_faults(alloc, switches)?;
     if faults.is_empty() {
         put_admitted_cascade(text, switches, margins)?;
-        return Ok(Answer::Admitted);
+        return Ok(CheckAnswer::Admitted);
     }
     put_cascade_faults(alloc, text, switches, faults.as_slice())?;
-    Ok(Answer::Denied)
+    Ok(CheckAnswer::Denied)
 }
 
 /// Adds the answer: the first line that is false, or all.
@@ -276,11 +276,11 @@ fn put_cascade_answer(
     options: CheckOptions,
     text: &mut Text,
     switches: Switches,
-) -> Result<Answer, AllocError>
+) -> Result<CheckAnswer, AllocError>
     ensures text { OnOk result (text_bytes text.new ≡ text_bytes text.old
         ++ spec.cascade_answer options switches) }
-    ensures admitted { result ≡ Ok Answer.Admitted → IsCascadeAdmitted switches }
-    ensures denied { result ≡ Ok Answer.Denied → IsCascadeAdmitted switches → ⊥ }
+    ensures admitted { result ≡ Ok CheckAnswer.Admitted → IsCascadeAdmitted switches }
+    ensures denied { result ≡ Ok CheckAnswer.Denied → IsCascadeAdmitted switches → ⊥ }
 {
     if options.all {
         put_all_of_cascade(alloc, options.margins, text, &switches)
@@ -294,12 +294,12 @@ pub(crate) fn checked_cascade(
     alloc: Global,
     options: CheckOptions,
     switches: Switches,
-) -> Result<(Text, Answer), AllocError>
+) -> Result<(Text, CheckAnswer), AllocError>
     ensures text { IfOk result (λ checked.
         text_bytes checked.0 ≡ spec.cascade_text_of options switches) }
-    ensures admitted { IfOk result (λ checked. checked.1 ≡ Answer.Admitted →
+    ensures admitted { IfOk result (λ checked. checked.1 ≡ CheckAnswer.Admitted →
         IsCascadeAdmitted switches) }
-    ensures denied { IfOk result (λ checked. checked.1 ≡ Answer.Denied →
+    ensures denied { IfOk result (λ checked. checked.1 ≡ CheckAnswer.Denied →
         IsCascadeAdmitted switches → ⊥) }
 {
     let mut text = Text::new(alloc);

@@ -7,7 +7,7 @@ ghost use Rattle.afdx_command_tables.specs.Checking.{file_text, file_text_of, Is
 ghost use Rattle.afdx_command_tables.specs.Checking.{IsChecked, IsDenied, IsFaulty, IsCut, IsUnchecked};
 
 use crate::check_cascade::checked_cascade;
-use crate::check_tables::{Answer, CheckOptions, checked_text};
+use crate::check_tables::{CheckAnswer, CheckOptions, checked_text};
 use crate::refusing::{refuse_file, want_memory};
 use crate::status::{DONE, REFUSED};
 use afdx_config::{Described, read_file};
@@ -21,12 +21,12 @@ fn checked_file(
     alloc: Global,
     options: CheckOptions,
     described: Described,
-) -> Result<(Text, Answer), AllocError>
+) -> Result<(Text, CheckAnswer), AllocError>
     ensures text { IfOk result (λ checked.
         text_bytes checked.0 ≡ file_text_of options described) }
-    ensures admitted { IfOk result (λ checked. checked.1 ≡ Answer.Admitted →
+    ensures admitted { IfOk result (λ checked. checked.1 ≡ CheckAnswer.Admitted →
         IsAdmittedFile described) }
-    ensures denied { IfOk result (λ checked. checked.1 ≡ Answer.Denied →
+    ensures denied { IfOk result (λ checked. checked.1 ≡ CheckAnswer.Denied →
         IsAdmittedFile described → ⊥) }
 {
     match described {
@@ -82,8 +82,8 @@ pub fn check_lines<O: Write, E: Write>(
     };
     match write_text(output, text.as_bytes()) {
         Ok(()) => match answer {
-            Answer::Admitted => DONE,
-            Answer::Denied => REFUSED,
+            CheckAnswer::Admitted => DONE,
+            CheckAnswer::Denied => REFUSED,
         },
         Err(fault) => {
             tell_fault(errors, &fault);

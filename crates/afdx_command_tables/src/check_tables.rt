@@ -176,7 +176,7 @@ fn put_faults(
 
 /// What is answered of tables.
 #[derive(Clone, Copy)]
-pub(crate) enum Answer {
+pub(crate) enum CheckAnswer {
     Admitted,
     Denied,
 }
@@ -187,20 +187,20 @@ fn put_first(
     margins: bool,
     text: &mut Text,
     tables: Tables,
-) -> Result<Answer, AllocError>
+) -> Result<CheckAnswer, AllocError>
     ensures text { OnOk result (text_bytes text.new ≡ text_bytes text.old
         ++ answer_line margins tables (first_false (lines tables))) }
-    ensures admitted { result ≡ Ok Answer.Admitted → IsAdmitted tables }
-    ensures denied { result ≡ Ok Answer.Denied → IsAdmitted tables → ⊥ }
+    ensures admitted { result ≡ Ok CheckAnswer.Admitted → IsAdmitted tables }
+    ensures denied { result ≡ Ok CheckAnswer.Denied → IsAdmitted tables → ⊥ }
 {
     match admit(tables) {
         Ok(admitted) => {
             put_admitted(text, admitted.tables(), margins)?;
-            Ok(Answer::Admitted)
+            Ok(CheckAnswer::Admitted)
         }
         Err((tables, fault)) => {
             put_fault(alloc, text, &tables, fault)?;
-            Ok(Answer::Denied)
+            Ok(CheckAnswer::Denied)
         }
     }
 }
@@ -211,19 +211,19 @@ fn put_all(
     margins: bool,
     text: &mut Text,
     tables: &Tables,
-) -> Result<Answer, AllocError>
+) -> Result<CheckAnswer, AllocError>
     ensures text { OnOk result (text_bytes text.new ≡ text_bytes text.old
         ++ answer_lines margins tables.now (false_lines (lines tables.now))) }
-    ensures admitted { result ≡ Ok Answer.Admitted → IsAdmitted tables.now }
-    ensures denied { result ≡ Ok Answer.Denied → IsAdmitted tables.now → ⊥ }
+    ensures admitted { result ≡ Ok CheckAnswer.Admitted → IsAdmitted tables.now }
+    ensures denied { result ≡ Ok CheckAnswer.Denied → IsAdmitted tables.now → ⊥ }
 {
     let faults = all_faults(alloc, tables)?;
     if faults.is_empty() {
         put_admitted(text, tables, margins)?;
-        return Ok(Answer::Admitted);
+        return Ok(CheckAnswer::Admitted);
     }
     put_faults(alloc, text, tables, faults.as_slice())?;
-    Ok(Answer::Denied)
+    Ok(CheckAnswer::Denied)
 }
 
 /// What `check` writes besides the bounds of each output port and its answer.
@@ -242,11 +242,11 @@ fn put_answer(
     options: CheckOptions,
     text: &mut Text,
     tables: Tables,
-) -> Result<Answer, AllocError>
+) -> Result<CheckAnswer, AllocError>
     ensures text { OnOk result
         (text_bytes text.new ≡ text_bytes text.old ++ answer options tables) }
-    ensures admitted { result ≡ Ok Answer.Admitted → IsAdmitted tables }
-    ensures denied { result ≡ Ok Answer.Denied → IsAdmitted tables → ⊥ }
+    ensures admitted { result ≡ Ok CheckAnswer.Admitted → IsAdmitted tables }
+    ensures denied { result ≡ Ok CheckAnswer.Denied → IsAdmitted tables → ⊥ }
 {
     if options.all {
         put_all(alloc, options.margins, text, &tables)
@@ -260,10 +260,12 @@ pub(crate) fn checked_text(
     alloc: Global,
     options: CheckOptions,
     tables: Tables,
-) -> Result<(Text, Answer), AllocError>
+) -> Result<(Text, CheckAnswer), AllocError>
     ensures text { IfOk result (λ checked. text_bytes checked.0 ≡ check_text_of options tables) }
-    ensures admitted { IfOk result (λ checked. checked.1 ≡ Answer.Admitted → IsAdmitted tables) }
-    ensures denied { IfOk result (λ checked. checked.1 ≡ Answer.Denied → IsAdmitted tables → ⊥) }
+    ensures admitted { IfOk result (λ checked. checked.1 ≡ CheckAnswer.Admitted →
+        IsAdmitted tables) }
+    ensures denied { IfOk result (λ checked. checked.1 ≡ CheckAnswer.Denied →
+        IsAdmitted tables → ⊥) }
 {
     let mut text = Text::new(alloc);
     put_ports(&mut text, &tables, options.margins)?;

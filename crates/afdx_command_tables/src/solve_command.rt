@@ -73,18 +73,18 @@ fn cascade_short(alloc: Global, switches: &Switches, found: ShortAt) -> Result<S
 
 /// What is written and told.
 #[derive(Drop)]
-struct Answer {
+struct SolveAnswer {
     text: String,
     needs: String,
     is_solution: bool,
 }
 
 /// That there is no solution.
-fn no_solution(alloc: Global, text: String) -> Answer
+fn no_solution(alloc: Global, text: String) -> SolveAnswer
     ensures text { result.text ≡ text }
     ensures denial { result.is_solution ≡ false }
 {
-    Answer {
+    SolveAnswer {
         text,
         needs: String::new(alloc),
         is_solution: false,
@@ -97,7 +97,7 @@ fn answer_of_one(
     options: SolveOptions,
     tables: Tables,
     asked: &[Option<u64>],
-) -> Result<Answer, AllocError>
+) -> Result<SolveAnswer, AllocError>
     ensures solution { IfOk result (λ answer. answer.is_solution ≡ true → IsLawful tables →
         IsSolutionOfOne options tables asked.now
         (string_bytes answer.text) (string_bytes answer.needs)) }
@@ -118,7 +118,7 @@ fn answer_of_one(
             none_is_short();
             let text = config_text(alloc, tables)?;
             let needs = needs_of(alloc, tables, asked)?;
-            Ok(Answer {
+            Ok(SolveAnswer {
                 text,
                 needs,
                 is_solution: true,
@@ -139,7 +139,7 @@ fn answer_of_several(
     options: SolveOptions,
     switches: Switches,
     asked: &[Vec<Option<u64>>],
-) -> Result<Answer, AllocError>
+) -> Result<SolveAnswer, AllocError>
     ensures solution { IfOk result (λ answer. answer.is_solution ≡ true →
         IsSolutionOfSeveral options switches (lists asked.now)
         (string_bytes answer.text) (string_bytes answer.needs)) }
@@ -160,7 +160,7 @@ fn answer_of_several(
             none_is_short();
             let text = cascade_text(alloc, switches)?;
             let needs = needs_of_cascade(alloc, switches, asked)?;
-            Ok(Answer {
+            Ok(SolveAnswer {
                 text,
                 needs,
                 is_solution: true,
@@ -174,7 +174,7 @@ fn answer_of_several(
 }
 
 /// The solution of what a file describes, or the line that says that there is none.
-fn answer_of(alloc: Global, options: SolveOptions, file: ToSolve) -> Result<Answer, AllocError>
+fn answer_of(alloc: Global, options: SolveOptions, file: ToSolve) -> Result<SolveAnswer, AllocError>
     ensures solution { IfOk result (λ answer. answer.is_solution ≡ true → (config : List ℕ) →
         IsToSolve options.kept config file →
         IsSolution options config (string_bytes answer.text) (string_bytes answer.needs)) }

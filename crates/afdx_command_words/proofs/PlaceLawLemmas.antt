@@ -4,8 +4,8 @@ use Rattle.std.proofs.Common.{Option, Some, None}
 use Rattle.std.specs.List.{AllByRecursion}
 use Rattle.afdx_frame.specs.declared.link.Side.{Side}
 use Rattle.afdx_input_sources.specs.Places.{names_of, place_of}
-use Rattle.afdx_input_sources.specs.declared.places.Place.{Place}
-use Rattle.afdx_input_sources.specs.declared.places.Place.TheVariants.{LeftOut, OnSide, Left}
+use Rattle.afdx_input_sources.specs.declared.places.TapPoint.{TapPoint}
+use Rattle.afdx_input_sources.specs.declared.places.TapPoint.TheVariants.{LeftOut, OnSide, Left}
 use Rattle.afdx_command_words.specs.PlaceSaid.{Spot}
 use Rattle.afdx_command_words.specs.Placed.{ArePut, Came, Gone, IsPut, OfAll}
 use Rattle.afdx_command_words.specs.PlacedLaws.{IsSaid, WordsArePlaces}
@@ -18,11 +18,11 @@ all-get P [] k x lt e all = absurd (omega (arith, lt))
 all-get P (y ∷ xs) zero x lt e all = subst P e all.0
 all-get P (y ∷ xs) (suc k) x lt e all = all-get P xs k x (omega (arith, lt)) e all.1
 
-module _ (IsTold : Option Spot → Type 0) (Is : Option Spot → Place → Type 0) (words : List (List ℕ))
-    (places : ℕ → Option Place) (h : ArePut IsTold Is words places) (k : ℕ) where
+module _ (IsTold : Option Spot → Type 0) (Is : Option Spot → TapPoint → Type 0) (words : List (List ℕ))
+    (places : ℕ → Option TapPoint) (h : ArePut IsTold Is words places) (k : ℕ) where
   -- what is said is put
   said-put : (spot : Option Spot) → IsTold spot → IsSaid words k spot
-      → (place : Place) × (places k ≡ Some place) × Is spot place
+      → (place : TapPoint) × (places k ≡ Some place) × Is spot place
   said-put spot told said =
       let put = all-get (IsPut IsTold Is places) words said.0 said.1 said.2 said.3 h.each in
       let same = word-once said.1 put.0 k put.1 spot put.2 said.4 in
@@ -36,22 +36,22 @@ module _ (IsTold : Option Spot → Type 0) (Is : Option Spot → Place → Type 
   unsaid-not : ((spot : Option Spot) → IsSaid words k spot → ⊥) → places k ≡ None
   unsaid-not unsaid = by (places k) refl
     where
-      by : (found : Option Place) → places k ≡ found → places k ≡ None
+      by : (found : Option TapPoint) → places k ≡ found → places k ≡ None
       by None e = e
       by (Some place) e =
           let said = h.only k place e in
           absurd (unsaid said.4.0 (said.0, said.1, said.2, said.3, said.4.1))
 
 -- the port at which frames left
-abbrev left-at : Side → Option ℕ → Place
+abbrev left-at : Side → Option ℕ → TapPoint
 left-at side None = OnSide side
 left-at side (Some port) = Left side port
 
-abbrev left-of : Option Spot → Place
+abbrev left-of : Option Spot → TapPoint
 left-of None = LeftOut
 left-of (Some spot) = left-at spot.side spot.port
 
-gone-is : (side : Side) (port : ℕ) (place : Place) → Gone (spot_with side None (Some port)) place
+gone-is : (side : Side) (port : ℕ) (place : TapPoint) → Gone (spot_with side None (Some port)) place
     → place ≡ Left side port
 gone-is side port place gone = gone.3 ∙ sym (ap left-of gone.2)
 

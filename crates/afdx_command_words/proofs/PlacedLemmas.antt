@@ -9,7 +9,7 @@ use Rattle.std.proofs.lemmas.Grind.{common_steps}
 use Rattle.std.proofs.lemmas.List.{map_more, take_all}
 use Rattle.std.proofs.lemmas.List.Quantifiers.{Any-push}
 use Rattle.afdx_input_sources.specs.Places.{places_but}
-use Rattle.afdx_input_sources.specs.declared.places.Place.{Place}
+use Rattle.afdx_input_sources.specs.declared.places.TapPoint.{TapPoint}
 use Rattle.afdx_command_words.specs.PlaceSaid.{IsWord, Spot}
 use Rattle.afdx_command_words.specs.Placed.{ArePut, ArePutBeside, Came, IsAt, IsPut, Says}
 
@@ -70,21 +70,21 @@ if-ok-map (Err e) P Q f p = tt
 
 -- ---- one place
 
-but-by : (places : ℕ → Option Place) (k j : ℕ) (place : Place) (b : Bool) → (j == k) ≡ b
+but-by : (places : ℕ → Option TapPoint) (k j : ℕ) (place : TapPoint) (b : Bool) → (j == k) ≡ b
     → places_but places k place j ≡ (if b then Some place else places j)
 but-by places k j place b e = rw e refl
 
-pub but-same : (places : ℕ → Option Place) (k j : ℕ) (place : Place) → j ≡ k
+pub but-same : (places : ℕ → Option TapPoint) (k j : ℕ) (place : TapPoint) → j ≡ k
     → places_but places k place j ≡ Some place
 but-same places k j place e = but-by places k j place true (grind (arith, common_steps, e))
 
-pub but-other : (places : ℕ → Option Place) (k j : ℕ) (place : Place) → j ≢ k
+pub but-other : (places : ℕ → Option TapPoint) (k j : ℕ) (place : TapPoint) → j ≢ k
     → places_but places k place j ≡ places j
 but-other places k j place other = but-by places k j place false (grind (arith, common_steps, other))
 
 -- ---- names
 
-pub came-grows : (names more : List (List ℕ)) (spot : Option Spot) (place : Place) → Came names spot place
+pub came-grows : (names more : List (List ℕ)) (spot : Option Spot) (place : TapPoint) → Came names spot place
     → Came (names ++ more) spot place
 came-grows names more None place c = c
 came-grows names more (Some spot) place c = by spot.switch c
@@ -96,17 +96,17 @@ came-grows names more (Some spot) place c = by spot.switch c
 
 -- ---- one word more
 
-module _ (IsTold : Option Spot → Type 0) (Is Grown : Option Spot → Place → Type 0)
-    (grow : (spot : Option Spot) (place : Place) → Is spot place → Grown spot place)
-    (words : List (List ℕ)) (word : List ℕ) (start before after : ℕ → Option Place) (k : ℕ) (spot : Option Spot)
+module _ (IsTold : Option Spot → Type 0) (Is Grown : Option Spot → TapPoint → Type 0)
+    (grow : (spot : Option Spot) (place : TapPoint) → Is spot place → Grown spot place)
+    (words : List (List ℕ)) (word : List ℕ) (start before after : ℕ → Option TapPoint) (k : ℕ) (spot : Option Spot)
     (old : ArePutBeside IsTold Is words start before) (is : IsWord word k spot) where
   -- which is told: its interface gets the place
-  module _ (place : Place) (told : IsTold spot) (means : Grown spot place) (free : before k ≡ None)
+  module _ (place : TapPoint) (told : IsTold spot) (means : Grown spot place) (free : before k ≡ None)
       (put : (j : ℕ) → after j ≡ places_but before k place j) where
     there : (j : ℕ) → j ≡ k → after j ≡ Some place
     there j e = put j ∙ but-same before k j place e
 
-    stays : (j : ℕ) (p : Place) → before j ≡ Some p → after j ≡ Some p
+    stays : (j : ℕ) (p : TapPoint) → before j ≡ Some p → after j ≡ Some p
     stays j p e =
         let other : j ≢ k = λ same. let wrong : None ≡ Some p = sym free ∙ ap before (sym same) ∙ e in cc in
         put j ∙ but-other before k j place other ∙ e
@@ -114,18 +114,22 @@ module _ (IsTold : Option Spot → Type 0) (Is Grown : Option Spot → Place →
     still : (x : List ℕ) → IsPut IsTold Is before x → IsPut IsTold Grown after x
     still x p = (p.0, p.1, p.2, λ t. let at = p.3 t in (at.0, stays p.0 at.0 at.1, grow p.1 at.0 at.2))
 
-    grown : (j : ℕ) (p : Place) (x : List ℕ) → Says IsTold Is j p x → Says IsTold Grown j p x
+    grown : (j : ℕ) (p : TapPoint) (x : List ℕ) → Says IsTold Is j p x → Says IsTold Grown j p x
     grown j p x s = (s.0, s.1, s.2, grow s.0 p s.3)
 
     new : IsPut IsTold Grown after word
     new = (k, spot, is, λ t. (place, there k refl, means))
 
-    says : (j : ℕ) (p : Place) → j ≡ k → after j ≡ Some p → Says IsTold Grown j p word
+    says : (j : ℕ) (p : TapPoint) → j ≡ k → after j ≡ Some p → Says IsTold Grown j p word
     says j p e at =
-        let same : place ≡ p = cc (there j e, at) in
-        (spot, subst (λ (i : ℕ). IsWord word i spot) (sym e) is, told, subst (λ (q : Place). Grown spot q) same means)
+        let same : place ≡ p = cc (there j e, at) in (
+          spot,
+          subst (λ (i : ℕ). IsWord word i spot) (sym e) is,
+          told,
+          subst (λ (q : TapPoint). Grown spot q) same means,
+        )
 
-    was : (j : ℕ) (p : Place) → j ≢ k → after j ≡ Some p → before j ≡ Some p
+    was : (j : ℕ) (p : TapPoint) → j ≢ k → after j ≡ Some p → before j ≡ Some p
     was j p other at = sym (put j ∙ but-other before k j place other) ∙ at
 
     pub word-put : ArePutBeside IsTold Grown (words ++ word ∷ []) start after
@@ -156,12 +160,12 @@ module _ (IsTold : Option Spot → Type 0) (Is Grown : Option Spot → Place →
 
 -- ---- no word, and all
 
-pub none-put : (IsTold : Option Spot → Type 0) (Is : Option Spot → Place → Type 0) (places : ℕ → Option Place)
+pub none-put : (IsTold : Option Spot → Type 0) (Is : Option Spot → TapPoint → Type 0) (places : ℕ → Option TapPoint)
     → ArePutBeside IsTold Is [] places places
 none-put IsTold Is places = record { each = tt; kept = λ j p e. e; only = λ j p e. inl e }
 
-pub all-put : (IsTold : Option Spot → Type 0) (Is : Option Spot → Place → Type 0) (words : List (List ℕ))
-    (start places : ℕ → Option Place) → ArePutBeside IsTold Is words start places
+pub all-put : (IsTold : Option Spot → Type 0) (Is : Option Spot → TapPoint → Type 0) (words : List (List ℕ))
+    (start places : ℕ → Option TapPoint) → ArePutBeside IsTold Is words start places
     → ((k : ℕ) → start k ≡ None) → ArePut IsTold Is words places
 all-put IsTold Is words start places h none = record {
   each = h.each;

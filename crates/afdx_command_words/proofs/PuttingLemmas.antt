@@ -8,8 +8,8 @@ use Rattle.afdx_frame.specs.declared.link.Side.{Side}
 use Rattle.afdx_frame.specs.declared.link.Side.TheVariants.{A, B}
 use Rattle.afdx_input_sources.specs.Places.{names_of, place_of, places_but}
 use Rattle.afdx_input_sources.specs.declared.places.Interfaces.{Interfaces}
-use Rattle.afdx_input_sources.specs.declared.places.Place.{Place}
-use Rattle.afdx_input_sources.specs.declared.places.Place.TheVariants.{LeftOut, AtNamed, Left}
+use Rattle.afdx_input_sources.specs.declared.places.TapPoint.{TapPoint}
+use Rattle.afdx_input_sources.specs.declared.places.TapPoint.TheVariants.{LeftOut, AtNamed, Left}
 use Rattle.afdx_command_words.specs.PlaceSaid.{IsWord, Spot, spot_of}
 use Rattle.afdx_command_words.specs.declared.place_words.Said.{Said}
 use Rattle.afdx_command_words.specs.declared.place_words.Said.TheVariants as reading
@@ -28,7 +28,7 @@ pub meant-left-out : (interfaces : Interfaces) → IsMeant interfaces interfaces
 meant-left-out interfaces =
     record { is = refl; places = refl; grown = grows-not (names_of interfaces) }
 
-pub meant-on : (interfaces : Interfaces) (side : Side) (port : Option ℕ) (place : Place) → place ≡ place_on side port
+pub meant-on : (interfaces : Interfaces) (side : Side) (port : Option ℕ) (place : TapPoint) → place ≡ place_on side port
     → IsMeant interfaces interfaces (spot_with side None port) place
 meant-on interfaces side port place e =
     record { is = e; places = refl; grown = grows-not (names_of interfaces) }
@@ -53,7 +53,8 @@ pub said-left-out : (interfaces : Interfaces) (said : Said) → said ≡ reading
 said-left-out interfaces said is = rw is (meant-left-out interfaces)
 
 pub said-on : (interfaces : Interfaces) (said : Said) (side : Side) (switch : Option (Bor (List ℕ)))
-    (port : Option ℕ) (place : Place) → said ≡ reading.At side switch port → switch ≡ None → place ≡ place_on side port
+    (port : Option ℕ) (place : TapPoint) → said ≡ reading.At side switch port → switch ≡ None → place ≡
+    place_on side port
     → IsMeant interfaces interfaces (spot_of said) place
 said-on interfaces said side switch port place is none e = rw (is, none) (meant-on interfaces side port place e)
 
@@ -66,11 +67,11 @@ said-named before after said side switch name port number is some count names pl
 
 -- ---- a new place
 
-none-of : (said : Option Place) → is_some said ≡ false → said ≡ None
+none-of : (said : Option TapPoint) → is_some said ≡ false → said ≡ None
 none-of None e = refl
 none-of (Some place) e = absurd (cc e)
 
-pub is-new : (before after : Interfaces) (k : ℕ) (place : Place) (said : Option Place) → said ≡ place_of before k
+pub is-new : (before after : Interfaces) (k : ℕ) (place : TapPoint) (said : Option TapPoint) → said ≡ place_of before k
     → is_some said ≡ false → ((j : ℕ) → place_of after j ≡ places_but (place_of before) k place j)
     → after.names ≡ before.names → IsNew before after k place
 is-new before after k place said e none put names =
@@ -81,14 +82,14 @@ same-places : (before after : Interfaces) → after.places ≡ before.places →
 unfolding place_of
 same-places before after e j = rw e refl
 
-pub is-new-by : (before mid after : Interfaces) (k : ℕ) (spot : Option Spot) (place : Place)
+pub is-new-by : (before mid after : Interfaces) (k : ℕ) (spot : Option Spot) (place : TapPoint)
     → IsMeant before mid spot place → IsNew mid after k place → IsNewBy before after k spot
 is-new-by before mid after k spot place meant new = record {
   place = place;
   is = subst (λ (names : List (List ℕ)). Came names spot place) (sym new.names) meant.is;
   free = sym (same-places before mid meant.places k) ∙ new.free;
   put = λ j. new.put j
-      ∙ ap (λ (o : Option Place). if j == k then Some place else o) (same-places before mid meant.places j);
+      ∙ ap (λ (o : Option TapPoint). if j == k then Some place else o) (same-places before mid meant.places j);
   grown = (meant.grown.0, new.names ∙ meant.grown.1);
 }
 
@@ -125,10 +126,10 @@ b-not-a side e f = let wrong : B ≡ A = sym e ∙ f in cc
 
 -- ---- the words of a loop
 
-abbrev pub nowhere : ℕ → Option Place
+abbrev pub nowhere : ℕ → Option TapPoint
 nowhere k = None
 
-pub empty-put : (IsTold : Option Spot → Type 0) (Is : Option Spot → Place → Type 0) (places : ℕ → Option Place)
+pub empty-put : (IsTold : Option Spot → Type 0) (Is : Option Spot → TapPoint → Type 0) (places : ℕ → Option TapPoint)
     → ((k : ℕ) → places k ≡ None) → ArePutBeside IsTold Is [] nowhere places
 empty-put IsTold Is places none = record {
   each = tt;
@@ -137,14 +138,14 @@ empty-put IsTold Is places none = record {
 }
 
 grow : (before after : Interfaces) (k : ℕ) (told : Option Spot)
-    → IsNewBy before after k told → (spot : Option Spot) (place : Place) → Came (names_of before) spot place
+    → IsNewBy before after k told → (spot : Option Spot) (place : TapPoint) → Came (names_of before) spot place
     → Came (names_of after) spot place
 grow before after k told new spot place c =
     subst (λ (names : List (List ℕ)). Came names spot place) (sym new.grown.1)
     (came-grows (names_of before) new.grown.0 spot place c)
 
 module _ (IsTold : Option Spot → Type 0) (words : List (Bor (List ℕ))) (i : ℕ) (d : Bor (List ℕ))
-    (start : ℕ → Option Place) (before after : Interfaces) (k : ℕ) (spot : Option Spot) (lt : i < length words)
+    (start : ℕ → Option TapPoint) (before after : Interfaces) (k : ℕ) (spot : Option Spot) (lt : i < length words)
     (old : ArePutBeside IsTold (Came (names_of before)) (texts (take i words)) start (place_of before))
     (is : IsWord (get_or words i d).now k spot) where
   -- one word more, which is told
@@ -169,7 +170,7 @@ module _ (IsTold : Option Spot → Type 0) (words : List (Bor (List ℕ))) (i : 
       (get_or words i d).now start (place_of before) (place_of before) k spot old is untold))
 
 -- of two recordings that of a side
-pub side-next : (side : Side) (words : List (Bor (List ℕ))) (i : ℕ) (d : Bor (List ℕ)) (start : ℕ → Option Place)
+pub side-next : (side : Side) (words : List (Bor (List ℕ))) (i : ℕ) (d : Bor (List ℕ)) (start : ℕ → Option TapPoint)
     (before after : Interfaces) (k : ℕ) (spot : Option Spot) → i < length words
     → ArePutBeside (OfSide side) (Came (names_of before)) (texts (take i words)) start (place_of before)
     → IsWord (get_or words i d).now k spot → IsNewOn side before after k spot
@@ -180,8 +181,8 @@ side-next side words i d start before after k spot lt old is new = elim new [
 ]
 
 -- where frames came in at one switch of a side
-pub seen-next : (words : List (Bor (List ℕ))) (i : ℕ) (d : Bor (List ℕ)) (start : ℕ → Option Place)
-    (before after : Interfaces) (k : ℕ) (side : Side) (port : Option ℕ) (place : Place) → i < length words
+pub seen-next : (words : List (Bor (List ℕ))) (i : ℕ) (d : Bor (List ℕ)) (start : ℕ → Option TapPoint)
+    (before after : Interfaces) (k : ℕ) (side : Side) (port : Option ℕ) (place : TapPoint) → i < length words
     → ArePutBeside OfAll (Came (names_of before)) (texts (take i words)) start (place_of before)
     → IsWord (get_or words i d).now k (spot_with side None port) → place ≡ place_on side port
     → IsNew before after k place
@@ -191,7 +192,7 @@ seen-next words i d start before after k side port place lt old is e new =
     (is-new-by before before after k (spot_with side None port) place (meant-on before side port place e) new)
 
 -- where they left
-pub gone-next : (words : List (Bor (List ℕ))) (i : ℕ) (d : Bor (List ℕ)) (start : ℕ → Option Place)
+pub gone-next : (words : List (Bor (List ℕ))) (i : ℕ) (d : Bor (List ℕ)) (start : ℕ → Option TapPoint)
     (before after : Interfaces) (k : ℕ) (side : Side) (port : ℕ) → i < length words
     → ArePutBeside OfAll Gone (texts (take i words)) start (place_of before)
     → IsWord (get_or words i d).now k (spot_with side None (Some port)) → IsNew before after k (Left side port)
@@ -204,8 +205,8 @@ gone-next words i d start before after k side port lt old is new =
 
 -- ---- all words
 
-module _ (IsTold : Option Spot → Type 0) (Is : Option Spot → Place → Type 0) (words : List (Bor (List ℕ))) (i : ℕ)
-    (start places : ℕ → Option Place) (le : length words ≤ i)
+module _ (IsTold : Option Spot → Type 0) (Is : Option Spot → TapPoint → Type 0) (words : List (Bor (List ℕ))) (i : ℕ)
+    (start places : ℕ → Option TapPoint) (le : length words ≤ i)
     (all : ArePutBeside IsTold Is (texts (take i words)) start places) where
   -- these are the words of an option
   pub option-put : (said : List (List ℕ)) → texts words ≡ said → ArePutBeside IsTold Is said start places
@@ -218,11 +219,12 @@ module _ (IsTold : Option Spot → Type 0) (Is : Option Spot → Place → Type 
 
 -- ---- where frames came in, and then where they left
 
-module _ (came left : List (List ℕ)) (start : ℕ → Option Place) (mid after : Interfaces)
+module _ (came left : List (List ℕ)) (start : ℕ → Option TapPoint) (mid after : Interfaces)
     (none : (k : ℕ) → start k ≡ None)
     (first : ArePutBeside OfAll (Came (names_of mid)) came start (place_of mid))
     (last : ArePutBeside OfAll Gone left (place_of mid) (place_of after)) (names : names_of after ≡ names_of mid) where
-  same-name : (spot : Option Spot) (place : Place) → Came (names_of mid) spot place → Came (names_of after) spot place
+  same-name : (spot : Option Spot) (place : TapPoint) → Came (names_of mid) spot place →
+      Came (names_of after) spot place
   same-name spot place c = subst (λ (all : List (List ℕ)). Came all spot place) (sym names) c
 
   still-put : (x : List ℕ) → IsPut OfAll (Came (names_of mid)) (place_of mid) x
@@ -235,11 +237,11 @@ module _ (came left : List (List ℕ)) (start : ℕ → Option Place) (mid after
         let at = p.3 t in (at.0, last.kept p.0 at.0 at.1, same-name p.1 at.0 at.2),
   )
 
-  still-said : (k : ℕ) (place : Place) (x : List ℕ) → Says OfAll (Came (names_of mid)) k place x
+  still-said : (k : ℕ) (place : TapPoint) (x : List ℕ) → Says OfAll (Came (names_of mid)) k place x
       → Says OfAll (Came (names_of after)) k place x
   still-said k place x s = (s.0, s.1, s.2, same-name s.0 place s.3)
 
-  was-said : (k : ℕ) (place : Place) → place_of mid k ≡ Some place
+  was-said : (k : ℕ) (place : TapPoint) → place_of mid k ≡ Some place
       → Any (Says OfAll (Came (names_of after)) k place) came
   was-said k place at = elim (first.only k place at) [
     | inl said ↦ let wrong : None ≡ Some place = sym (none k) ∙ said in absurd (cc)

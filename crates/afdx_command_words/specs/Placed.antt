@@ -4,30 +4,30 @@ use Rattle.std.specs.List.{AllByRecursion, Any}
 use Rattle.afdx_frame.specs.declared.link.Side.{Side}
 use Rattle.afdx_input_sources.specs.Places.{names_of, place_of, places_but}
 use Rattle.afdx_input_sources.specs.declared.places.Interfaces.{Interfaces}
-use Rattle.afdx_input_sources.specs.declared.places.Place.{Place}
-use Rattle.afdx_input_sources.specs.declared.places.Place.TheVariants.{LeftOut, OnSide, AtPort}
-use Rattle.afdx_input_sources.specs.declared.places.Place.TheVariants.{AtNamed, Left}
+use Rattle.afdx_input_sources.specs.declared.places.TapPoint.{TapPoint}
+use Rattle.afdx_input_sources.specs.declared.places.TapPoint.TheVariants.{LeftOut, OnSide, AtPort}
+use Rattle.afdx_input_sources.specs.declared.places.TapPoint.TheVariants.{AtNamed, Left}
 use Rattle.afdx_command_words.specs.PlaceSaid.{IsWord, Spot}
 
 -- on a side or, if a port is said, at that one
-abbrev pub place_on : Side → (port : Option ℕ) → Place
+abbrev pub place_on : Side → (port : Option ℕ) → TapPoint
 place_on side None = OnSide side
 place_on side (Some port) = AtPort side port
 
 -- a place on a side, where these are the names of switches
 abbrev pub IsAt : (names : List (List ℕ)) → Side → (switch : Option (List ℕ)) →
-    (port : Option ℕ) → Place → Type 0
+    (port : Option ℕ) → TapPoint → Type 0
 IsAt names side None port place = place ≡ place_on side port
 IsAt names side (Some switch) port place =
     (number : ℕ) × (slice_get names number ≡ Some switch) × (place ≡ AtNamed side number port)
 
 -- frames came in at a spot, which is this place; without a spot they are left out
-abbrev pub Came : (names : List (List ℕ)) → Option Spot → Place → Type 0
+abbrev pub Came : (names : List (List ℕ)) → Option Spot → TapPoint → Type 0
 Came names None place = place ≡ LeftOut
 Came names (Some spot) place = IsAt names spot.side spot.switch spot.port place
 
 -- frames left at a spot, which is a port, without the name of a switch
-abbrev pub Gone : Option Spot → Place → Type 0
+abbrev pub Gone : Option Spot → TapPoint → Type 0
 Gone spot place = (side : Side) × (port : ℕ)
     × (spot ≡ Some (record { side = side; switch = None; port = Some port }))
     × (place ≡ Left side port)
@@ -42,26 +42,27 @@ OfSide side None = ⊤
 OfSide side (Some spot) = spot.side ≡ side
 
 -- of a recording that is told of some spots, each of which is a place
-module _ (IsTold : Option Spot → Type 0) (Is : Option Spot → Place → Type 0) where
+module _ (IsTold : Option Spot → Type 0) (Is : Option Spot → TapPoint → Type 0) where
   -- the interface of a word has the place of its spot
-  abbrev pub IsPut : (places : ℕ → Option Place) → (word : List ℕ) → Type 0
+  abbrev pub IsPut : (places : ℕ → Option TapPoint) → (word : List ℕ) → Type 0
   IsPut places word = (k : ℕ) × (spot : Option Spot) × IsWord word k spot
-      × (IsTold spot → (place : Place) × (places k ≡ Some place) × Is spot place)
+      × (IsTold spot → (place : TapPoint) × (places k ≡ Some place) × Is spot place)
 
   -- a word says that an interface has a place
-  abbrev pub Says : (k : ℕ) → Place → (word : List ℕ) → Type 0
+  abbrev pub Says : (k : ℕ) → TapPoint → (word : List ℕ) → Type 0
   Says k place word = (spot : Option Spot) × IsWord word k spot × IsTold spot × Is spot place
 
   -- the interfaces have the places that these words say, and no others
-  pub record ArePut (words : List (List ℕ)) (places : ℕ → Option Place) : Type 0 where
+  pub record ArePut (words : List (List ℕ)) (places : ℕ → Option TapPoint) : Type 0 where
     pub each : AllByRecursion (IsPut places) words
-    pub only : (k : ℕ) (place : Place) → places k ≡ Some place → Any (Says k place) words
+    pub only : (k : ℕ) (place : TapPoint) → places k ≡ Some place → Any (Says k place) words
 
   -- they have them beside those that they had
-  pub record ArePutBeside (words : List (List ℕ)) (before after : ℕ → Option Place) : Type 0 where
+  pub record ArePutBeside (words : List (List ℕ)) (before after : ℕ → Option TapPoint)
+      : Type 0 where
     pub each : AllByRecursion (IsPut after) words
-    pub kept : (k : ℕ) (place : Place) → before k ≡ Some place → after k ≡ Some place
-    pub only : (k : ℕ) (place : Place) → after k ≡ Some place →
+    pub kept : (k : ℕ) (place : TapPoint) → before k ≡ Some place → after k ≡ Some place
+    pub only : (k : ℕ) (place : TapPoint) → after k ≡ Some place →
         (before k ≡ Some place) ⊎ Any (Says k place) words
 
 -- what the words of `--interface` say of one recording, and of that of a side of two
@@ -81,7 +82,7 @@ pub record AreSeen (came left : List (List ℕ)) (interfaces : Interfaces) : Typ
   pub each_came : AllByRecursion
       (IsPut OfAll (Came (names_of interfaces)) (place_of interfaces)) came
   pub each_left : AllByRecursion (IsPut OfAll Gone (place_of interfaces)) left
-  pub only : (k : ℕ) (place : Place) → place_of interfaces k ≡ Some place →
+  pub only : (k : ℕ) (place : TapPoint) → place_of interfaces k ≡ Some place →
       Any (Says OfAll (Came (names_of interfaces)) k place) came
       ⊎ Any (Says OfAll Gone k place) left
 
@@ -90,20 +91,21 @@ abbrev pub Grows : (before after : List (List ℕ)) → Type 0
 Grows before after = (more : List (List ℕ)) × (after ≡ before ++ more)
 
 -- a spot is this place, of which the name of a switch was added
-pub record IsMeant (before after : Interfaces) (spot : Option Spot) (place : Place) : Type 0 where
+pub record IsMeant (before after : Interfaces) (spot : Option Spot) (place : TapPoint)
+    : Type 0 where
   pub is : Came (names_of after) spot place
   pub places : after.places ≡ before.places
   pub grown : Grows (names_of before) (names_of after)
 
 -- an interface had no place, and has this one; the others have theirs
-pub record IsNew (before after : Interfaces) (k : ℕ) (place : Place) : Type 0 where
+pub record IsNew (before after : Interfaces) (k : ℕ) (place : TapPoint) : Type 0 where
   pub free : place_of before k ≡ None
   pub put : (j : ℕ) → place_of after j ≡ places_but (place_of before) k place j
   pub names : names_of after ≡ names_of before
 
 -- the same of the place at which frames came in by a spot, of which names were added
 pub record IsNewBy (before after : Interfaces) (k : ℕ) (spot : Option Spot) : Type 0 where
-  pub place : Place
+  pub place : TapPoint
   pub is : Came (names_of after) spot place
   pub free : place_of before k ≡ None
   pub put : (j : ℕ) → place_of after j ≡ places_but (place_of before) k place j

@@ -4,7 +4,7 @@ use Rattle.std.specs.List.{Any}
 use Rattle.afdx_frame.specs.declared.link.Side.{Side}
 use Rattle.afdx_input_sources.specs.Places.{place_of}
 use Rattle.afdx_input_sources.specs.declared.places.Interfaces.{Interfaces}
-use Rattle.afdx_input_sources.specs.declared.places.Place.TheVariants.{LeftOut, Left}
+use Rattle.afdx_input_sources.specs.declared.places.TapPoint.TheVariants.{LeftOut, Left}
 use Rattle.afdx_command_words.specs.PlaceSaid.{IsWord, Spot}
 use Rattle.afdx_command_words.specs.Placed.{AreCame, AreGone, place_on}
 use Rattle.afdx_command_words.specs.WordLaws.{spot_with}

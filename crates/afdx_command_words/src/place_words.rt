@@ -13,7 +13,7 @@ ghost use Rattle.afdx_command_words.specs.Placed.{AreCame, AreCameOn, IsMeant, I
 use crate::misplaced::{Given, Misplaced};
 use crate::recording_words::Refused;
 use afdx_frame::{BySide, LAST_PORT, Side};
-use afdx_input_sources::{Interfaces, Place};
+use afdx_input_sources::{Interfaces, TapPoint};
 use std::alloc::Global;
 
 /// The greatest number of an interface.
@@ -125,12 +125,12 @@ fn interface_in(word: &str) -> Option<(u16, Said<'_>)>
 }
 
 /// The place on a side or, if a port is said, at that one.
-pub(crate) fn place_on(side: Side, port: Option<u8>) -> Place
+pub(crate) fn place_on(side: Side, port: Option<u8>) -> TapPoint
     ensures { result ≡ place_on side port }
 {
     match port {
-        Some(port) => Place::AtPort(side, port),
-        None => Place::OnSide(side),
+        Some(port) => TapPoint::AtPort(side, port),
+        None => TapPoint::OnSide(side),
     }
 }
 
@@ -159,14 +159,14 @@ fn place_meant<'a>(
     interfaces: &mut Interfaces,
     given: Given<'a>,
     said: Said<'_>,
-) -> Result<Place, Refused<'a>>
+) -> Result<TapPoint, Refused<'a>>
     ensures { IfOk result (IsMeant interfaces.old interfaces.new (spot_of said.entry)) }
 {
     match said {
-        Said::LeftOut => Ok(Place::LeftOut),
+        Said::LeftOut => Ok(TapPoint::LeftOut),
         Said::At(side, Some(name), port) => {
             let number = number_of_name(alloc, interfaces, given, name)?;
-            Ok(Place::AtNamed(side, number, port))
+            Ok(TapPoint::AtNamed(side, number, port))
         }
         Said::At(side, None, port) => Ok(place_on(side, port)),
     }
@@ -177,7 +177,7 @@ pub(crate) fn put_new<'a>(
     interfaces: &mut Interfaces,
     given: Given<'a>,
     interface: u16,
-    place: Place,
+    place: TapPoint,
 ) -> Result<(), Refused<'a>>
     requires { interface < most_interfaces }
     ensures { OnOk result (IsNew interfaces.old interfaces.new interface place) }

@@ -14,7 +14,7 @@ use crate::recording_words::{
 };
 use crate::words::flag;
 use afdx_input_lines::ByRole;
-use afdx_input_sources::{Interfaces, Place, RecordingOptions};
+use afdx_input_sources::{Interfaces, RecordingOptions, TapPoint};
 use clap::{Arg, ArgAction, ArgMatches};
 use std::alloc::Global;
 
@@ -128,7 +128,7 @@ fn put_left<'a>(interfaces: &mut Interfaces, matches: &ArgMatches<'a>) -> Result
         let Some(port) = port else {
             return Err(given.refused(Misplaced::Port));
         };
-        put_new(interfaces, given, interface, Place::Left(side, port))?;
+        put_new(interfaces, given, interface, TapPoint::Left(side, port))?;
     }
     any_of("left", words)
 }

@@ -4,21 +4,22 @@ use Rattle.std.proofs.Common.{nat_eq, refl, ap, sym, subst, arith, ◌∙◌, No
 use Rattle.std.proofs.lemmas.List.{append_assoc, length_push}
 use Rattle.std.proofs.lemmas.Bool.{eqb-false}
 use Rattle.afdx_comport.specs.Messages.{TimedMessage}
-use Rattle.afdx_comport.specs.declared.held.Held.{Held}
-use Rattle.afdx_comport.specs.declared.held.Held.TheVariants.{Sampling, Queuing}
+use Rattle.afdx_comport.specs.declared.held.PortMemory.{PortMemory}
+use Rattle.afdx_comport.specs.declared.held.PortMemory.TheVariants.{Sampling, Queuing}
 use Rattle.afdx_comport.specs.Held.{is_full, first_of, without_first, with_spare}
 use Rattle.afdx_comport.specs.Calls.{Call, Put, Take, GiveBack, with_put, held_after, put_in, and_then}
 use Rattle.afdx_comport.specs.Calls.{taken_from, waiting, newest, empty_queue, IsFirstInFirstOut}
 
 -- what waits in the queue then
-record Queued (depth : ℕ) (held : Held) (came left : List (List ℕ)) : Type 0 where
+record Queued (depth : ℕ) (held : PortMemory) (came left : List (List ℕ)) : Type 0 where
   messages : List (List ℕ)
   spare : Option ℕ
   holds : held ≡ Queuing (record { depth = depth; messages = messages; spare = spare })
   in_order : came ≡ left ++ messages
   within : length messages ≤ depth
 
-queue-put : (depth : ℕ) (m : TimedMessage) (held : Held) (came left : List (List ℕ)) → Queued depth held came left →
+queue-put : (depth : ℕ) (m : TimedMessage) (held : PortMemory) (came left : List (List ℕ)) →
+    Queued depth held came left →
     Queued depth (with_put m held) (cond (is_full held) came (came ++ m.bytes ∷ [])) left
 queue-put depth m held came left q =
     subst (λ h. Queued depth (with_put m h) (cond (is_full h) came (came ++ m.bytes ∷ [])) left)
@@ -43,7 +44,7 @@ queue-put depth m held came left q =
       within = omega (arith, q.within, length_push q.messages m.bytes, eqb-false (length q.messages) depth room);
     }
 
-queue-take : (depth : ℕ) (held : Held) (came left : List (List ℕ)) → Queued depth held came left →
+queue-take : (depth : ℕ) (held : PortMemory) (came left : List (List ℕ)) → Queued depth held came left →
     Queued depth (without_first held) came (and_then left (first_of held))
 queue-take depth held came left q =
     subst (λ h. Queued depth (without_first h) came (and_then left (first_of h))) (sym q.holds)
@@ -61,7 +62,7 @@ queue-take depth held came left q =
       within = omega (arith, short);
     }
 
-queue-give : (depth room : ℕ) (held : Held) (came left : List (List ℕ)) → Queued depth held came left →
+queue-give : (depth room : ℕ) (held : PortMemory) (came left : List (List ℕ)) → Queued depth held came left →
     Queued depth (with_spare room held) came left
 queue-give depth room held came left q = record {
   messages = q.messages;

@@ -7,14 +7,14 @@ use Rattle.afdx_config.specs.Rows.{LinkRow, PortRow}
 use Rattle.afdx_config.specs.Lawful.{IsPort}
 use Rattle.afdx_config.specs.declared.rows.Kind.{Kind}
 use Rattle.afdx_config.specs.declared.rows.Kind.TheVariants as kind
-use Rattle.afdx_comport.specs.declared.held.Held.{Held}
-use Rattle.afdx_comport.specs.declared.held.Held.TheVariants.{Sampling, Queuing}
+use Rattle.afdx_comport.specs.declared.held.PortMemory.{PortMemory}
+use Rattle.afdx_comport.specs.declared.held.PortMemory.TheVariants.{Sampling, Queuing}
 use Rattle.afdx_comport.specs.declared.com_ports.ComPort.{ComPort}
 use Rattle.afdx_comport.specs.Held.{first, rest, IsRead}
 use Rattle.afdx_comport.specs.Ports.{empty_of, port_at_first, ports_at_first}
 use Rattle.afdx_comport.specs.Laws.{IsPutAndRead}
 
-pub put_and_read : (held : Held) (time : ℕ) (bytes : List ℕ) → IsRead held → IsPutAndRead held time bytes
+pub put_and_read : (held : PortMemory) (time : ℕ) (bytes : List ℕ) → IsRead held → IsPutAndRead held time bytes
 put_and_read (Sampling sample) time bytes all = record { room = refl; read = refl; all = tt }
 put_and_read (Queuing line) time bytes all = record {
   room = ap (λ (ms : List (List ℕ)). nat_eq (length ms) line.depth) all.0

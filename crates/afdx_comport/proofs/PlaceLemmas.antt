@@ -23,7 +23,7 @@ use Rattle.afdx_config.specs.Reading.{has_port}
 use Rattle.afdx_config.specs.Lawful.{AreDistinct, triple}
 use Rattle.afdx_comport.specs.Ports.{port_at_first, ports_at_first, is_for, is_same_key, PlacesAreOf, AreFound}
 use Rattle.afdx_comport.specs.declared.com_ports.ComPort.{ComPort}
-use Rattle.afdx_comport.specs.declared.held.Held.{Held}
+use Rattle.afdx_comport.specs.declared.held.PortMemory.{PortMemory}
 
 -- ---- places
 
@@ -242,7 +242,7 @@ found_configured rows system link udp =
     ap is_some (position_from-zero (is_for link udp) (ports_at_first system rows)) ∙ some_any (is_for link udp) 0
     (ports_at_first system rows) ∙ any_configured rows system link udp
 
-pub stays : (ports : List ComPort) (place link udp : ℕ) (port : ComPort) (held : Held)
+pub stays : (ports : List ComPort) (place link udp : ℕ) (port : ComPort) (held : PortMemory)
     → slice_get ports place ≡ Some port →
     position (is_for link udp) (slice_set ports place (record port { held = held })) ≡ position (is_for link udp) ports
 stays ports place link udp port held here =
@@ -256,12 +256,12 @@ stays ports place link udp port held here =
 -- a port that holds something else is found where it was, and so is each other
 
 pub places_stay : {S : Type 0} (places : HashMap (VlId × ℕ) ℕ S) (ports : List ComPort) (place : ℕ)
-    (port : ComPort) (held : Held) → slice_get ports place ≡ Some port → PlacesAreOf places ports →
+    (port : ComPort) (held : PortMemory) → slice_get ports place ≡ Some port → PlacesAreOf places ports →
     PlacesAreOf places (slice_set ports place (record port { held = held }))
 places_stay places ports place port held here of key =
     of key ∙ sym (stays ports place key.0.0 key.1 port held here)
 
-pub found_stay : (ports : List ComPort) (place : ℕ) (port : ComPort) (held : Held) →
+pub found_stay : (ports : List ComPort) (place : ℕ) (port : ComPort) (held : PortMemory) →
     slice_get ports place ≡ Some port → AreFound ports →
     AreFound (slice_set ports place (record port { held = held }))
 found_stay ports place port held here found q p e = at (cases_eq q place)
@@ -282,7 +282,7 @@ found_stay ports place port held here found q p e = at (cases_eq q place)
         ∙ found q p (sym (slice_get-set_there ports place q changed other) ∙ e)
 
 pub both_stay : {S : Type 0} (places : HashMap (VlId × ℕ) ℕ S) (ports : List ComPort) (place : ℕ)
-    (port : ComPort) (held : Held) → place < length ports → port ≡ get_or ports place port →
+    (port : ComPort) (held : PortMemory) → place < length ports → port ≡ get_or ports place port →
     PlacesAreOf places ports × AreFound ports →
     PlacesAreOf places (slice_set ports place (record port { held = held }))
     × AreFound (slice_set ports place (record port { held = held }))

@@ -4,20 +4,20 @@ use Rattle.std.specs.List.{AllByRecursion}
 use Rattle.afdx_config.specs.Rows.{LinkRow, PortRow}
 use Rattle.afdx_config.specs.Reading.{has_port}
 use Rattle.afdx_config.specs.Lawful.{IsPort}
-use Rattle.afdx_comport.specs.declared.held.Held.{Held}
+use Rattle.afdx_comport.specs.declared.held.PortMemory.{PortMemory}
 use Rattle.afdx_comport.specs.declared.com_ports.ComPort.{ComPort}
 use Rattle.afdx_comport.specs.Held.{is_full, with_message, without_first, read_of, IsRead}
 use Rattle.afdx_comport.specs.Ports.{ports_at_first, is_for}
 
 -- a port of which all was read takes a message, which is what is read next; then all was read again
-pub record IsPutAndRead (held : Held) (time : ℕ) (bytes : List ℕ) : Type 0 where
+pub record IsPutAndRead (held : PortMemory) (time : ℕ) (bytes : List ℕ) : Type 0 where
   pub room : is_full held ≡ false
   pub read : read_of (with_message time bytes held) ≡ Some bytes
   pub all : IsRead (without_first (with_message time bytes held))
 
 abbrev pub PutIsReadBack : Type 0
 PutIsReadBack =
-    (held : Held) (time : ℕ) (bytes : List ℕ) → IsRead held → IsPutAndRead held time bytes
+    (held : PortMemory) (time : ℕ) (bytes : List ℕ) → IsRead held → IsPutAndRead held time bytes
 
 -- a new system's ports have nothing to read
 abbrev pub AllIsReadAtFirst : Type 0
@@ -33,7 +33,7 @@ FoundIsConfigured = (rows : List PortRow) (system link udp : ℕ) →
 
 -- what a port holds doesn't change where a port is found
 abbrev pub FoundStays : Type 0
-FoundStays = (ports : List ComPort) (place link udp : ℕ) (port : ComPort) (held : Held) →
+FoundStays = (ports : List ComPort) (place link udp : ℕ) (port : ComPort) (held : PortMemory) →
     slice_get ports place ≡ Some port →
     position (is_for link udp) (slice_set ports place (record port { held = held }))
     ≡ position (is_for link udp) ports

@@ -6,12 +6,12 @@ use Rattle.afdx_frame.specs.declared.link.VlId.{VlId}
 use Rattle.afdx_config.specs.Rows.{PortRow}
 use Rattle.afdx_config.specs.declared.rows.Kind.{Kind}
 use Rattle.afdx_config.specs.declared.rows.Kind.TheVariants as kind
-use Rattle.afdx_comport.specs.declared.held.Held.{Held}
-use Rattle.afdx_comport.specs.declared.held.Held.TheVariants.{Sampling, Queuing}
+use Rattle.afdx_comport.specs.declared.held.PortMemory.{PortMemory}
+use Rattle.afdx_comport.specs.declared.held.PortMemory.TheVariants.{Sampling, Queuing}
 use Rattle.afdx_comport.specs.declared.com_ports.ComPort.{ComPort}
 
 -- a port of a kind and a depth that holds nothing
-abbrev pub empty_of : Kind → ℕ → Held
+abbrev pub empty_of : Kind → ℕ → PortMemory
 empty_of kind.Sampling depth = Sampling None
 empty_of kind.Queuing depth = Queuing (record { depth = depth; messages = []; spare = None })
 

@@ -9,7 +9,7 @@ ghost use Rattle.afdx_comport.specs.Held.{without_first, with_spare, has_spare};
 ghost use Rattle.afdx_comport.specs.declared.fault.PutFault.TheVariants.{Full, Memory};
 
 use crate::fault::PutFault;
-use crate::held::{Held, Queue};
+use crate::held::{PortMemory, Queue};
 use afdx_config::{ComRow, Kind, SystemId, Tables};
 use afdx_frame::VlId;
 use std::alloc::{AllocError, Global};
@@ -21,7 +21,7 @@ use std::marker::Model;
 pub(crate) struct ComPort {
     pub(crate) link: VlId,
     pub(crate) udp: u16,
-    pub(crate) held: Held,
+    pub(crate) held: PortMemory,
 }
 
 impl ComPort {
@@ -33,8 +33,8 @@ impl ComPort {
         ensures { IfOk result (λ port. port ≡ port_at_first (port_row row.now)) }
     {
         let held = match row.kind {
-            Kind::Sampling => Held::Sampling(None),
-            Kind::Queuing => Held::Queuing(Queue::new(alloc, row.depth as usize)?),
+            Kind::Sampling => PortMemory::Sampling(None),
+            Kind::Queuing => PortMemory::Queuing(Queue::new(alloc, row.depth as usize)?),
         };
         Ok(ComPort {
             link: row.link,

@@ -153,12 +153,12 @@ impl Queue {
 
 /// What a port holds, by its kind.
 #[derive(Drop)]
-pub(crate) enum Held {
+pub(crate) enum PortMemory {
     Sampling(Option<Sample>),
     Queuing(Queue),
 }
 
-impl Held {
+impl PortMemory {
     /// Takes in a message that comes now.
     pub(crate) fn put(&mut self, alloc: Global, time: u64, message: &[u8]) -> Result<(), PutFault>
         ensures full { (result ≡ Err Full) ↔ IsTrue (is_full self.old) }
@@ -168,12 +168,12 @@ impl Held {
             ¬ (result ≡ Err Memory) }
     {
         match self {
-            Held::Sampling(Some(sample)) => sample.replace(alloc, time, message)?,
-            Held::Sampling(none) => {
+            PortMemory::Sampling(Some(sample)) => sample.replace(alloc, time, message)?,
+            PortMemory::Sampling(none) => {
                 let bytes = Vec::from_slice(alloc, message)?;
                 *none = Some(Sample { time, bytes });
             }
-            Held::Queuing(queue) => {
+            PortMemory::Queuing(queue) => {
                 if queue.is_full() {
                     return Err(PutFault::Full);
                 }
@@ -190,8 +190,8 @@ impl Held {
             ≡ sample_of self.now }
     {
         match self {
-            Held::Sampling(Some(sample)) => Some((sample.time, sample.bytes.as_slice())),
-            Held::Sampling(None) | Held::Queuing(_) => None,
+            PortMemory::Sampling(Some(sample)) => Some((sample.time, sample.bytes.as_slice())),
+            PortMemory::Sampling(None) | PortMemory::Queuing(_) => None,
         }
     }
 
@@ -201,8 +201,8 @@ impl Held {
         ensures rest { self.new ≡ without_first self.old }
     {
         match self {
-            Held::Sampling(_) => None,
-            Held::Queuing(queue) => queue.pop(),
+            PortMemory::Sampling(_) => None,
+            PortMemory::Queuing(queue) => queue.pop(),
         }
     }
 
@@ -210,7 +210,7 @@ impl Held {
     pub(crate) fn give_back(&mut self, room: Vec<u8>)
         ensures { self.new ≡ with_spare (vec_capacity room) self.old }
     {
-        if let Held::Queuing(queue) = self {
+        if let PortMemory::Queuing(queue) = self {
             queue.give_back(room);
         }
     }

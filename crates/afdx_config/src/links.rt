@@ -14,18 +14,18 @@ use std::marker::Model;
 
 /// The links by identifier, in file order.
 #[derive(Debug)]
-pub(crate) struct Links {
+pub(crate) struct LinkTable {
     by_vl: IndexMap<VlId, Link>,
 }
 
-impl Drop for Links {
+impl Drop for LinkTable {
     // (written out, it is one call wherever a value is let go)
     fn drop(self) {
         let Self { by_vl } = self;
     }
 }
 
-impl Model for Links {
+impl Model for LinkTable {
     ghost use Rattle.std.specs.Prelude.{◌≤◌, List, map, length};
     ghost use Rattle.std.specs.List.{AllByRecursion};
     ghost use Rattle.afdx_config.specs.Rows.{LinkRow};
@@ -40,11 +40,11 @@ impl Model for Links {
         × AllByRecursion IsUnderItsIdentifier l.by_vl.entries };
 }
 
-impl Links {
-    pub(crate) fn new(alloc: Global) -> Links
+impl LinkTable {
+    pub(crate) fn new(alloc: Global) -> LinkTable
         ensures { result ≡ [] }
     {
-        Links {
+        LinkTable {
             by_vl: IndexMap::new(alloc),
         }
     }

@@ -23,10 +23,10 @@ use crate::choices::choice;
 use crate::fault::{ConfigFault, Place};
 use crate::keys::{At, link_at, one_of, text, texts, whole};
 use crate::known_keys::only_link_keys;
-use crate::links::Links;
+use crate::links::LinkTable;
 use crate::read_systems::named;
 use crate::rows::{KeptKeys, Link, SystemId};
-use crate::systems::Systems;
+use crate::systems::SystemTable;
 use afdx_frame::{GAPS_MS, GREATEST_DELAY_US, Policing, Priority, VlId};
 use std::alloc::Global;
 use toml::Table;
@@ -36,7 +36,7 @@ fn all_named(
     alloc: Global,
     at: Place,
     names: &[&str],
-    systems: &Systems,
+    systems: &SystemTable,
 ) -> Result<Vec<SystemId>, ConfigFault>
     ensures known { IfOk result (λ v. AreKnown systems.now v.items) }
     ensures count { IfOk result (λ v. length v.items ≡ length names.now) }
@@ -83,7 +83,7 @@ fn destinations(
     alloc: Global,
     table: &Table,
     at: At,
-    systems: &Systems,
+    systems: &SystemTable,
     from: SystemId,
 ) -> Result<Vec<SystemId>, ConfigFault>
     ensures known { IfOk result (λ v. AreKnown systems.now v.items) }
@@ -233,7 +233,7 @@ fn to_of(
     alloc: Global,
     table: &Table,
     index: usize,
-    systems: &Systems,
+    systems: &SystemTable,
     from: SystemId,
 ) -> Result<Vec<SystemId>, ConfigFault>
     ensures known { IfOk result (λ v. AreKnown systems.now v.items) }
@@ -251,8 +251,8 @@ fn link_of(
     alloc: Global,
     table: &Table,
     own: usize,
-    ends: &Systems,
-    before: &Links,
+    ends: &SystemTable,
+    before: &LinkTable,
     kept: KeptKeys,
 ) -> Result<Link, ConfigFault>
     ensures value { Gives link_row result
@@ -291,16 +291,16 @@ pub(crate) fn links_of(
     alloc: Global,
     tables: &[&Table],
     own: usize,
-    ends: &Systems,
+    ends: &SystemTable,
     kept: KeptKeys,
-) -> Result<Links, ConfigFault>
+) -> Result<LinkTable, ConfigFault>
     requires { length tables.now ≤ spec.most_links }
     ensures lawful { IfOk result (AreLinksUpTo jitter_from_any (length ends.now)) }
     ensures sent { IfOk result (HaveSystemJitter own) }
     ensures value { Gives (λ l. l) result
         (spec.each (spec.link_at kept own ends.now) [] (trees tables.now)) }
 {
-    let mut links = Links::new(alloc);
+    let mut links = LinkTable::new(alloc);
     for table in tables {
         let link = link_of(alloc, table, own, ends, &links, kept)?;
         links.push(link)?;

@@ -16,7 +16,7 @@ use crate::keys::{neighbour_at, one_of, whole};
 use crate::known_keys::only_neighbour_keys;
 use crate::read_systems::{new_name, rates};
 use crate::rows::System;
-use crate::systems::Systems;
+use crate::systems::SystemTable;
 use std::alloc::Global;
 use toml::Table;
 
@@ -39,7 +39,7 @@ fn neighbour_of(
     table: &Table,
     profile: u64,
     own: usize,
-    before: &Systems,
+    before: &SystemTable,
 ) -> Result<System, ConfigFault>
     requires { own ≤ length before.now }
     ensures value { Gives system_row result
@@ -72,8 +72,8 @@ pub(crate) fn neighbours_of(
     alloc: Global,
     tables: &[&Table],
     profile: u64,
-    systems: Systems,
-) -> Result<Systems, ConfigFault>
+    systems: SystemTable,
+) -> Result<SystemTable, ConfigFault>
     requires systems { AreSystems profile systems }
     requires few { length tables.now ≤ most_neighbours }
     ensures lawful { IfOk result (AreEnds profile (length systems)) }

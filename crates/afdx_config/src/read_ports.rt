@@ -15,10 +15,10 @@ ghost use Rattle.afdx_config.specs.Reading as spec;
 use crate::fault::ConfigFault;
 use crate::keys::{At, port_at, text, whole};
 use crate::known_keys::only_port_keys;
-use crate::links::Links;
+use crate::links::LinkTable;
 use crate::read_systems::own_named;
 use crate::rows::{ComRow, Kind, SystemId};
-use crate::systems::Systems;
+use crate::systems::SystemTable;
 use afdx_frame::VlId;
 use std::alloc::Global;
 use toml::Table;
@@ -75,8 +75,8 @@ fn socket_of(
     table: &Table,
     index: usize,
     own: usize,
-    ends: &Systems,
-    links: &Links,
+    ends: &SystemTable,
+    links: &LinkTable,
     before: &[ComRow],
 ) -> Result<Socket, ConfigFault>
     ensures own { IfOk result (λ s. s.system.0 < own) }
@@ -106,8 +106,8 @@ fn socket_of(
 fn com_of(
     table: &Table,
     own: usize,
-    ends: &Systems,
-    links: &Links,
+    ends: &SystemTable,
+    links: &LinkTable,
     before: &[ComRow],
 ) -> Result<ComRow, ConfigFault>
     requires { length before.now < spec.most_ports }
@@ -162,8 +162,8 @@ pub(crate) fn coms_of(
     alloc: Global,
     tables: &[&Table],
     own: usize,
-    ends: &Systems,
-    links: &Links,
+    ends: &SystemTable,
+    links: &LinkTable,
 ) -> Result<Vec<ComRow>, ConfigFault>
     requires { length tables.now ≤ spec.most_ports }
     ensures lawful { IfOk result

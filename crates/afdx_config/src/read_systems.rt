@@ -19,13 +19,13 @@ use crate::fault::ConfigFault;
 use crate::keys::{At, one_of, system_at, text, whole};
 use crate::known_keys::only_system_keys;
 use crate::rows::{System, SystemId};
-use crate::systems::Systems;
+use crate::systems::SystemTable;
 use std::alloc::Global;
 use toml::Table;
 
 /// The system that a text names.
 #[tactic(auto, unfolding(crate::specs::Reading::named, crate::specs::Keys::spot_of))]
-pub(crate) fn named(table: &Table, at: At, systems: &Systems) -> Result<SystemId, ConfigFault>
+pub(crate) fn named(table: &Table, at: At, systems: &SystemTable) -> Result<SystemId, ConfigFault>
     ensures known { IfOk result (λ i. i.0 < length systems.now) }
     ensures value { Gives (λ i. i.0) result
         (spec.named (spot_of at) systems.now (table_view table.now)) }
@@ -43,7 +43,7 @@ pub(crate) fn own_named(
     table: &Table,
     at: At,
     own: usize,
-    ends: &Systems,
+    ends: &SystemTable,
 ) -> Result<SystemId, ConfigFault>
     ensures own { IfOk result (λ i. i.0 < own) }
     ensures known { IfOk result (λ i. i.0 < length ends.now) }
@@ -90,7 +90,7 @@ pub(crate) fn name_of<'a>(table: &'a Table, at: At) -> Result<&'a str, ConfigFau
 pub(crate) fn new_name<'a>(
     table: &'a Table,
     at: At,
-    before: &Systems,
+    before: &SystemTable,
 ) -> Result<&'a str, ConfigFault>
     ensures value { Gives (λ s. s.now) result
         (spec.new_name (spot_of at) before.now (table_view table.now)) }
@@ -151,7 +151,7 @@ fn system_of(
     alloc: Global,
     table: &Table,
     profile: u64,
-    before: &Systems,
+    before: &SystemTable,
 ) -> Result<System, ConfigFault>
     ensures value { Gives system_row result
         (spec.system_at profile before.now (table_view table.now)) }
@@ -185,13 +185,13 @@ pub(crate) fn systems_of(
     alloc: Global,
     tables: &[&Table],
     profile: u64,
-) -> Result<Systems, ConfigFault>
+) -> Result<SystemTable, ConfigFault>
     requires { length tables.now ≤ last_port }
     ensures lawful { IfOk result (AreSystems profile) }
     ensures value { Gives (λ s. s) result
         (spec.each (spec.system_at profile) [] (trees tables.now)) }
 {
-    let mut systems = Systems::new(alloc);
+    let mut systems = SystemTable::new(alloc);
     for table in tables {
         let system = system_of(alloc, table, profile, &systems)?;
         systems.push(system)?;

@@ -15,18 +15,18 @@ use std::marker::Model;
 
 /// The systems by name, in file order.
 #[derive(Debug)]
-pub(crate) struct Systems {
+pub(crate) struct SystemTable {
     by_name: IndexMap<String, System>,
 }
 
-impl Drop for Systems {
+impl Drop for SystemTable {
     // (written out, it is one call wherever a value is let go)
     fn drop(self) {
         let Self { by_name } = self;
     }
 }
 
-impl Model for Systems {
+impl Model for SystemTable {
     ghost use Rattle.std.specs.Prelude.{◌≤◌, List, map, length};
     ghost use Rattle.std.specs.List.{AllByRecursion};
     ghost use Rattle.afdx_frame.specs.Ports.{last_port};
@@ -41,11 +41,11 @@ impl Model for Systems {
         × AllByRecursion IsUnderItsName s.by_name.entries };
 }
 
-impl Systems {
-    pub(crate) fn new(alloc: Global) -> Systems
+impl SystemTable {
+    pub(crate) fn new(alloc: Global) -> SystemTable
         ensures { result ≡ [] }
     {
-        Systems {
+        SystemTable {
             by_name: IndexMap::new(alloc),
         }
     }

@@ -1,8 +1,8 @@
 //! The tables of a network.
 
-use crate::links::Links;
+use crate::links::LinkTable;
 use crate::rows::{ComRow, Link, System, SystemId, Times};
-use crate::systems::Systems;
+use crate::systems::SystemTable;
 use afdx_frame::VlId;
 use std::marker::Model;
 
@@ -17,8 +17,8 @@ pub struct Tables {
     profile: u64,
     buffer: u64,
     own: usize,
-    systems: Systems,
-    links: Links,
+    systems: SystemTable,
+    links: LinkTable,
     coms: Vec<ComRow>,
 }
 
@@ -68,8 +68,8 @@ impl Tables {
         profile: u64,
         buffer: u64,
         own: usize,
-        systems: Systems,
-        links: Links,
+        systems: SystemTable,
+        links: LinkTable,
         coms: Vec<ComRow>,
     ) -> Tables
         requires { IsLawfulSwitch

@@ -10,7 +10,7 @@ use Rattle.afdx_conform.specs.States.{State}
 use Rattle.afdx_conform.specs.Streams.{Gone}
 use Rattle.afdx_conform.specs.declared.arrived.Arrived.{Arrived}
 use Rattle.afdx_conform.specs.declared.finding.Mark.{Mark}
-use Rattle.afdx_conform.specs.declared.states.Held.{Held}
+use Rattle.afdx_conform.specs.declared.states.StreamState.{StreamState}
 
 -- one more mark
 pub marked-push : (xs : List Arrived) (ms : List Mark) (a : Arrived) (m : Mark) → length ms < length xs
@@ -26,13 +26,14 @@ marked-push (x ∷ xs) (n ∷ ms) a m lt = ap (λ (l : List Marked). marked_of x
     (marked-push xs ms a m (omega (arith, lt)))
 
 -- whether one of the states passes a test
-pub any-held : (ys : List Gone) (test : State → Bool) (held : List Held) (i : ℕ) (h : Held) (b : Bool) → i < length held
+pub any-held : (ys : List Gone) (test : State → Bool) (held : List StreamState) (i : ℕ) (h : StreamState) (b : Bool) →
+    i < length held
     → test (state_of ys (get_or held i h)) ≡ b
     → list_any test (map (state_of ys) (drop i held)) ≡ (b || list_any test (map (state_of ys) (drop (i + 1) held)))
 any-held ys test held i h b lt e =
-    ap (λ (l : List Held). list_any test (map (state_of ys) l)) (drop_more held i h lt)
+    ap (λ (l : List StreamState). list_any test (map (state_of ys) l)) (drop_more held i h lt)
     ∙ ap (λ (c : Bool). c || list_any test (map (state_of ys) (drop (i + 1) held))) e
 
-pub any-held-end : (ys : List Gone) (test : State → Bool) (held : List Held) (i : ℕ) → length held ≤ i
+pub any-held-end : (ys : List Gone) (test : State → Bool) (held : List StreamState) (i : ℕ) → length held ≤ i
     → list_any test (map (state_of ys) (drop i held)) ≡ false
-any-held-end ys test held i le = ap (λ (l : List Held). list_any test (map (state_of ys) l)) (drop_all i held le)
+any-held-end ys test held i le = ap (λ (l : List StreamState). list_any test (map (state_of ys) l)) (drop_all i held le)

@@ -18,8 +18,8 @@ use Rattle.afdx_conform.specs.declared.arrived.Arrived.{Arrived}
 use Rattle.afdx_conform.specs.declared.finding.Mark.{Mark}
 use Rattle.afdx_conform.specs.declared.judging.Judging.{Judging}
 use Rattle.afdx_conform.specs.declared.levels.Rates.{Rates}
-use Rattle.afdx_conform.specs.declared.limits.Frame.{Frame}
-use Rattle.afdx_conform.specs.declared.states.Held.{Held}
+use Rattle.afdx_conform.specs.declared.limits.LeftFrame.{LeftFrame}
+use Rattle.afdx_conform.specs.declared.states.StreamState.{StreamState}
 use Rattle.afdx_conform.proofs.ArrivalLemmas.{marked-push}
 use Rattle.afdx_conform.proofs.HeldLemmas.{if-false}
 
@@ -69,7 +69,8 @@ module _ (z : Terms) (behind : List Arrival) (last : ℕ) (x : Arrival) (j : Jud
       (front_rest j.states) j
   answered-none e = ap (λ (t : List State). answered_by z behind last x t j) e
 
-  few-is : (ys : List Gone) (few : List Held) (n : ℕ) (k : Judged) → map (state_of ys) few ≡ thinned_onto [] k.states
+  few-is : (ys : List Gone) (few : List StreamState) (n : ℕ) (k : Judged) → map (state_of ys) few ≡
+      thinned_onto [] k.states
       → few_of z n k ≡ judged_with (map (state_of ys) few) k.arrivals k.findings k.frames (k.uncertain + n)
       (nat_lt most_states (length few))
   few-is ys few n k e =
@@ -79,7 +80,7 @@ module _ (z : Terms) (behind : List Arrival) (last : ℕ) (x : Arrival) (j : Jud
       (nat_lt most_states m))
       (length-map few (state_of ys))
 
-  pub came-whole : (ys : List Gone) (mid few : List Held) (found : List Finding) (arrivals : List Marked)
+  pub came-whole : (ys : List Gone) (mid few : List StreamState) (found : List Finding) (arrivals : List Marked)
       (reason : Option Reason) (u :
       Bool)
       → j.is_unsure ≡ false → fault_of (Some z.rule) x.port x.bytes ≡ None
@@ -114,7 +115,7 @@ no-frames : (n : ℕ) → n ≡ n + frames_in []
 unfolding frames_in
 no-frames n = let e : n ≡ n + 0 = omega arith in e
 
-module _ (rates : Rates) (fs : List Frame) (xs : List Arrived) (z : Terms) (behind : List Arrival) (last : ℕ)
+module _ (rates : Rates) (fs : List LeftFrame) (xs : List Arrived) (z : Terms) (behind : List Arrival) (last : ℕ)
     (a : Arrived) (j : Judged)
     (old new : Judging) (s : StandsFor rates fs xs j old) (lt : length old.marks.items < length xs)
     (at : a ≡ get_or xs (length old.marks.items) a) where
@@ -125,7 +126,8 @@ module _ (rates : Rates) (fs : List Frame) (xs : List Arrived) (z : Terms) (behi
       ∙ ap (λ (n : ℕ). marked_all xs ms ++ (marked_of (get_or xs n a) m ∷ [])) len
       ∙ ap (λ (v : Arrived). marked_all xs ms ++ (marked_of v m ∷ [])) (sym at)
 
-  pub stands-arrival : (ms : List Mark) (mid : List Held) (found : List Finding) (reason : Option Reason) (u : Bool)
+  pub stands-arrival : (ms : List Mark) (mid : List StreamState) (found : List Finding) (reason : Option Reason)
+      (u : Bool)
       → j.is_unsure ≡ false → fault_of (Some z.rule) a.port a.bytes ≡ None
       → answered_by z behind last (arrival_of a) (Led z behind last (arrival_of a) j) j
       ≡ with_states (map (state_of (map gone_of fs)) mid) (told a.time found (marked_all xs ms) j)
@@ -170,7 +172,7 @@ module _ (rates : Rates) (fs : List Frame) (xs : List Arrived) (z : Terms) (behi
       let whole = came-fault z behind last (arrival_of a) j fault sure e in
       subst (λ (k : Judged). StandsFor rates fs xs k new × AreFound a.time found j k) (sym whole) (
         record {
-          states = ap (λ (l : List Held). map (state_of (map gone_of fs)) l) held ∙ s.states;
+          states = ap (λ (l : List StreamState). map (state_of (map gone_of fs)) l) held ∙ s.states;
           within = within;
           marks = ap (λ (l : List Mark). marked_all xs l) nm
               ∙ pushed-marks old.marks.items (record { reason = Some fault; is_named = false }) refl
@@ -186,10 +188,10 @@ module _ (rates : Rates) (fs : List Frame) (xs : List Arrived) (z : Terms) (behi
       )
 
 -- a state more, with a mark more
-pub more-marks : (rates : Rates) (frames n : ℕ) (ms all : List Mark) (m : Mark) (held : List Held)
+pub more-marks : (rates : Rates) (frames n : ℕ) (ms all : List Mark) (m : Mark) (held : List StreamState)
     → all ≡ ms ++ (m ∷ [])
     → length ms ≡ n → All (λ h. IsWithin rates frames (n + 1) h) held
     → All (λ h. IsWithin rates frames (length all) h) held
 more-marks rates frames n ms all m held e len within =
-    subst (λ (k : ℕ). All (λ (h : Held). IsWithin rates frames k h) held)
+    subst (λ (k : ℕ). All (λ (h : StreamState). IsWithin rates frames k h) held)
     (sym (ap (λ (l : List Mark). length l) e ∙ length_push ms m ∙ ap (λ (k : ℕ). k + 1) len)) within

@@ -8,7 +8,7 @@ use Rattle.afdx_frame.specs.declared.seals.Seal.{Seal}
 use Rattle.afdx_frame.specs.declared.seals.Seal.TheVariants.{Right, Wrong, Missing}
 use Rattle.afdx_conform.specs.KnownBytes.{kept_at, kept_of, key_of, seal_of, sealed_so}
 use Rattle.afdx_conform.specs.declared.by_bytes.ByBytes.{ByBytes}
-use Rattle.afdx_conform.specs.declared.places.Places.{Places}
+use Rattle.afdx_conform.specs.declared.places.KeyPlaces.{KeyPlaces}
 use Rattle.afdx_conform.proofs.BytesLemmas.{same-found}
 
 pub none-so : (places : ByBytes) → ((key : List ℕ) → kept_at places.right key ≡ [])
@@ -30,19 +30,19 @@ seal-cases Missing Wrong = inr (λ e. absurd (cc))
 seal-cases Missing Missing = inl refl
 
 -- those of another seal stay
-pub rest-right : (places : ByBytes) (new : Places) (t : Seal) → (Right ≡ t → ⊥)
+pub rest-right : (places : ByBytes) (new : KeyPlaces) (t : Seal) → (Right ≡ t → ⊥)
     → sealed_so t (record places { right = new }) ≡ sealed_so t places
 rest-right places new Right no' = absurd (no' refl)
 rest-right places new Wrong no' = refl
 rest-right places new Missing no' = refl
 
-pub rest-wrong : (places : ByBytes) (new : Places) (t : Seal) → (Wrong ≡ t → ⊥)
+pub rest-wrong : (places : ByBytes) (new : KeyPlaces) (t : Seal) → (Wrong ≡ t → ⊥)
     → sealed_so t (record places { wrong = new }) ≡ sealed_so t places
 rest-wrong places new Right no' = refl
 rest-wrong places new Wrong no' = absurd (no' refl)
 rest-wrong places new Missing no' = refl
 
-pub rest-other : (places : ByBytes) (new : Places) (t : Seal) → (Missing ≡ t → ⊥)
+pub rest-other : (places : ByBytes) (new : KeyPlaces) (t : Seal) → (Missing ≡ t → ⊥)
     → sealed_so t (record places { other = new }) ≡ sealed_so t places
 rest-other places new Right no' = refl
 rest-other places new Wrong no' = refl
@@ -71,7 +71,7 @@ module _ (old new : ByBytes) (bytes key : List ℕ) (s : Seal) (place : ℕ) (si
           (added (key_of other)
           ∙ ap (λ (b : Bool). if b then kept_at (sealed_so s old) (key_of other) ++ (place ∷ [])
           else kept_at (sealed_so s old) (key_of other)) (differ none same))
-      apart none (inr differs) = ap (λ (p : Places). kept_at p (key_of other)) (rest (seal_of other) differs)
+      apart none (inr differs) = ap (λ (p : KeyPlaces). kept_at p (key_of other)) (rest (seal_of other) differs)
 
       by : (b : Bool) → bytes_eq bytes other ≡ b
           → kept_of new other ≡ (if b then kept_of old other ++ (place ∷ []) else kept_of old other)

@@ -11,14 +11,15 @@ use Rattle.afdx_conform.specs.Leeway.{reach}
 use Rattle.afdx_conform.specs.Naming.{unexplained_all}
 use Rattle.afdx_conform.specs.States.{State, kept, are_behind}
 use Rattle.afdx_conform.specs.Streams.{Gone, Terms}
-use Rattle.afdx_conform.specs.declared.states.Held.{Held}
+use Rattle.afdx_conform.specs.declared.states.StreamState.{StreamState}
 use Rattle.afdx_conform.proofs.HeldLemmas.{if-false}
 use Rattle.afdx_conform.proofs.KeepLemmas.{closed-is}
 
 -- ---- whether a state is left
 
-kept-has : (ys : List Gone) (test : State → Bool) (told : Held → Bool) → ((h : Held) → test (state_of ys h) ≡ told h)
-    → (xs : List Held) → has_some (kept test (map (state_of ys) xs)) ≡ list_any told xs
+kept-has : (ys : List Gone) (test : State → Bool) (told : StreamState → Bool) →
+    ((h : StreamState) → test (state_of ys h) ≡ told h)
+    → (xs : List StreamState) → has_some (kept test (map (state_of ys) xs)) ≡ list_any told xs
 unfolding kept
 kept-has ys test told same [] = refl
 kept-has ys test told same (x ∷ xs) = by (test (state_of ys x)) (told x) (same x) (kept-has ys test told same xs)
@@ -56,7 +57,7 @@ nothing-closed z time [] j e =
     (sym e)
 nothing-closed z time (s ∷ l) j e = ap (λ (m : List State). with_states m j) (sym e)
 
-module _ (z : Terms) (time passed : ℕ) (ys : List Gone) (held : List Held) (j : Judged)
+module _ (z : Terms) (time passed : ℕ) (ys : List Gone) (held : List StreamState) (j : Judged)
     (closed : AreClosed time passed ys)
     (states : map (state_of ys) held ≡ j.states) (sure : j.is_unsure ≡ false) where
   abbrev left : List State
@@ -72,7 +73,7 @@ module _ (z : Terms) (time passed : ℕ) (ys : List Gone) (held : List Held) (j 
   sure-is = if-false j.is_unsure j (closed_by z time left j) sure
 
   -- one is
-  pub close-kept : (new : List Held) → list_any (λ h. nat_le passed h.passed) held ≡ true
+  pub close-kept : (new : List StreamState) → list_any (λ h. nat_le passed h.passed) held ≡ true
       → map (state_of ys) new ≡ kept (λ s. are_behind time s.rest) (map (state_of ys) held)
       → with_states (map (state_of ys) new) j ≡ closed_to z time j
   close-kept new any e =
@@ -82,11 +83,11 @@ module _ (z : Terms) (time passed : ℕ) (ys : List Gone) (held : List Held) (j 
       ∙ sym sure-is
 
   -- all are
-  all-left : AllByRecursion (λ (h : Held). passed ≤ h.passed) held
+  all-left : AllByRecursion (λ (h : StreamState). passed ≤ h.passed) held
       → kept (λ s. are_behind time s.rest) (map (state_of ys) held) ≡ map (state_of ys) held
   all-left all = by held all
     where
-      by : (hs : List Held) → AllByRecursion (λ (h : Held). passed ≤ h.passed) hs
+      by : (hs : List StreamState) → AllByRecursion (λ (h : StreamState). passed ≤ h.passed) hs
           → kept (λ s. are_behind time s.rest) (map (state_of ys) hs) ≡ map (state_of ys) hs
       by [] a = kept-none (λ s. are_behind time s.rest)
       by (h ∷ hs) a =
@@ -94,7 +95,7 @@ module _ (z : Terms) (time passed : ℕ) (ys : List Gone) (held : List Held) (j 
           (closed-is time passed ys closed h.passed ∙ le-leb passed h.passed a.0)
           ∙ ap (λ (l : List State). state_of ys h ∷ l) (by hs a.1)
 
-  pub close-all : AllByRecursion (λ (h : Held). passed ≤ h.passed) held → closed_to z time j ≡ j
+  pub close-all : AllByRecursion (λ (h : StreamState). passed ≤ h.passed) held → closed_to z time j ≡ j
   close-all all =
       sure-is
       ∙ ap (λ (l : List State). closed_by z time l j)
@@ -177,22 +178,24 @@ skip-from z time passed from ys states j closed lt front =
     (unexplained_all z (time + reach z.by) (take (passed - from) (drop from ys)) j)) rest
 
 -- no state is behind the closing, so the front is before it
-none-passed : (passed : ℕ) (xs : List Held) → list_any (λ h. nat_le passed h.passed) xs ≡ false
-    → AllByRecursion (λ (k : Held). nat_le passed k.passed ≡ false) xs
+none-passed : (passed : ℕ) (xs : List StreamState) → list_any (λ h. nat_le passed h.passed) xs ≡ false
+    → AllByRecursion (λ (k : StreamState). nat_le passed k.passed ≡ false) xs
 none-passed passed [] e = tt
 none-passed passed (x ∷ xs) e = by (nat_le passed x.passed) refl e (λ k. none-passed passed xs k)
   where
     by : (b : Bool) → nat_le passed x.passed ≡ b → (b || list_any (λ h. nat_le passed h.passed) xs) ≡ false
         → (list_any (λ h. nat_le passed h.passed) xs ≡ false
-        → AllByRecursion (λ (k : Held). nat_le passed k.passed ≡ false) xs)
-        → AllByRecursion (λ (k : Held). nat_le passed k.passed ≡ false) (x ∷ xs)
+        → AllByRecursion (λ (k : StreamState). nat_le passed k.passed ≡ false) xs)
+        → AllByRecursion (λ (k : StreamState). nat_le passed k.passed ≡ false) (x ∷ xs)
     by true k e more = absurd (cc)
     by false k e more = (k, more e)
 
-pub front-before : (held : List Held) (passed f none : ℕ) → list_any (λ h. nat_le passed h.passed) held ≡ false
-    → ((held ≡ []) × (f ≡ none)) ⊎ ((h : Held) × Contains held h × (h.passed ≡ f)) → (held ≡ []) ⊎ (f < passed)
+pub front-before : (held : List StreamState) (passed f none : ℕ) → list_any (λ h. nat_le passed h.passed) held ≡ false
+    → ((held ≡ []) × (f ≡ none)) ⊎ ((h : StreamState) × Contains held h × (h.passed ≡ f)) → (held ≡ []) ⊎ (f < passed)
 front-before held passed f none any (inl e) = inl e.0
 front-before held passed f none any (inr (h, c, e)) =
-    let all = All-from_recursion (λ (k : Held). nat_le passed k.passed ≡ false) held (none-passed passed held any) in
-    let not = leb-false passed h.passed (All-contains (λ (k : Held). nat_le passed k.passed ≡ false) held h all c) in
+    let all = All-from_recursion (λ (k : StreamState). nat_le passed k.passed ≡ false) held
+    (none-passed passed held any) in
+    let not = leb-false passed h.passed
+    (All-contains (λ (k : StreamState). nat_le passed k.passed ≡ false) held h all c) in
     inr (omega (arith, not, e))

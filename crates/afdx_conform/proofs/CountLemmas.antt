@@ -14,7 +14,7 @@ use Rattle.afdx_conform.specs.Limits.{gone_of}
 use Rattle.afdx_conform.specs.States.{Event, arrivals_came, State, first_states}
 use Rattle.afdx_conform.specs.Streams.{Gone, Terms, is_begun}
 use Rattle.afdx_conform.specs.declared.growth.Growth.{Growth}
-use Rattle.afdx_conform.specs.declared.states.Held.{Held}
+use Rattle.afdx_conform.specs.declared.states.StreamState.{StreamState}
 use Rattle.afdx_conform.proofs.EveryLemmas.{every-on}
 use Rattle.afdx_conform.proofs.FindingLemmas.{if-both}
 use Rattle.afdx_conform.proofs.HeldLemmas.{if-false}
@@ -41,7 +41,7 @@ first-none z levels (y ∷ ys) = (
       (first-none z levels ys) tt,
 )
 
-held-none : (ys : List Gone) (held : List Held) → AllByRecursion (λ h. h.waiting ≤ 0) held
+held-none : (ys : List Gone) (held : List StreamState) → AllByRecursion (λ h. h.waiting ≤ 0) held
     → AllByRecursion (λ s. s.waiting ≡ 0) (map (state_of ys) held)
 held-none ys [] h = tt
 held-none ys (s ∷ held) h = ((let w = h.0 in omega (arith, w)), held-none ys held h.1)
@@ -59,7 +59,7 @@ least-low g least e sound = subst (λ (n : ℕ). n ≤ length g.judging.marks.it
     (recursion_from_All (λ v. IsWithin g.bounds.rates (length g.frames.items) (length g.judging.marks.items) v)
     g.judging.held.items sound.within))
   where
-    by : (held : List Held)
+    by : (held : List StreamState)
         → AllByRecursion (λ v. IsWithin g.bounds.rates (length g.frames.items) (length g.judging.marks.items) v) held
         → least_waiting (map (state_of []) held) ≤ length g.judging.marks.items
     by [] w = omega arith

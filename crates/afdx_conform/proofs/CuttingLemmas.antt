@@ -12,7 +12,7 @@ use Rattle.afdx_conform.specs.Histories.{AreEvents, AreOver, coming, uncut, uncl
 use Rattle.afdx_conform.specs.Leeway.{reach}
 use Rattle.afdx_conform.specs.States.{Event, Came, Closing, State, state_with}
 use Rattle.afdx_conform.specs.Streams.{Gone, Terms}
-use Rattle.afdx_conform.specs.declared.states.Held.{Held}
+use Rattle.afdx_conform.specs.declared.states.StreamState.{StreamState}
 use Rattle.afdx_conform.proofs.EveryLemmas.{every-on, every-unmap}
 use Rattle.afdx_conform.proofs.HistoryLemmas.{next-closing, over-time}
 use Rattle.afdx_conform.proofs.OverLemmas.{AreLate}
@@ -154,7 +154,7 @@ module _ (z : Terms) where
           → map (with_more off) ls ≡ map (with_more off) ms
       tails k = cc
 
-  pub passed-low : (fs here off : List Gone) (held : List Held) (states : List State) → fs ≡ here ++ off
+  pub passed-low : (fs here off : List Gone) (held : List StreamState) (states : List State) → fs ≡ here ++ off
       → AllByRecursion (λ h. h.passed ≤ length fs) held → map (state_of fs) held ≡ map (with_more off) states
       → AllByRecursion (λ h. h.passed ≤ length here) held
   passed-low fs here off [] states is le e = tt

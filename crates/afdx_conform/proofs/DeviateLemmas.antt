@@ -18,9 +18,9 @@ use Rattle.afdx_conform.specs.Streams.{Gone, Terms}
 use Rattle.afdx_conform.specs.declared.finding.Deviation.{Deviation}
 use Rattle.afdx_conform.specs.declared.finding.Deviation.TheVariants as deviation
 use Rattle.afdx_conform.specs.declared.levels.Rates.{Rates}
-use Rattle.afdx_conform.specs.declared.limits.Frame.{Frame}
+use Rattle.afdx_conform.specs.declared.limits.LeftFrame.{LeftFrame}
 use Rattle.afdx_conform.specs.declared.states.Case.{Case}
-use Rattle.afdx_conform.specs.declared.states.Held.{Held}
+use Rattle.afdx_conform.specs.declared.states.StreamState.{StreamState}
 use Rattle.afdx_conform.proofs.AmongLemmas.{Among, kept-among}
 use Rattle.afdx_conform.proofs.FindingLemmas.{front-is}
 use Rattle.afdx_conform.proofs.HeldLemmas.{if-true, if-false}
@@ -64,7 +64,7 @@ on-none z behind x states j = refl
 
 -- ---- frames by their place
 
-pub gone-at : (fs : List Frame) (i : ℕ) (f : Frame) → i < length fs
+pub gone-at : (fs : List LeftFrame) (i : ℕ) (f : LeftFrame) → i < length fs
     → drop i (map gone_of fs) ≡ gone_of (get_or fs i f) ∷ drop (i + 1) (map gone_of fs)
 gone-at [] i f lt = absurd (omega (arith, lt))
 gone-at (g ∷ fs) zero f lt = refl
@@ -73,7 +73,7 @@ gone-at (g ∷ fs) (suc i) f lt =
     gone-at fs i f (omega (arith, lt))
     ∙ ap (λ (n : ℕ). gone_of (get_or fs i f) ∷ drop n (map gone_of (g ∷ fs))) (sym next)
 
-pub gone-past : (fs : List Frame) (i : ℕ) → length fs ≤ i → drop i (map gone_of fs) ≡ []
+pub gone-past : (fs : List LeftFrame) (i : ℕ) → length fs ≤ i → drop i (map gone_of fs) ≡ []
 gone-past fs i le = let n = length-map fs gone_of in drop_all i (map gone_of fs) (omega (arith, n, le))
 
 -- ---- the front, one frame on
@@ -130,7 +130,7 @@ module _ (z : Terms) (x : Arrival) where
       by true k n = k
       by false k n = absurd (cc)
 
-  pass-by : (last : ℕ) (ys : List Gone) (held : List Held)
+  pass-by : (last : ℕ) (ys : List Gone) (held : List StreamState)
       → led_by (λ s. states_at z x (levels_then z s.levels last x) s) (map (state_of ys) held) ≡ []
       → AllByRecursion (λ h. IsTrue (has_to_pass (link z) z.by (charge z x) (levels_then z h.levels last x))) held
   unfolding led_by
@@ -140,16 +140,16 @@ module _ (z : Terms) (x : Arrival) where
       (led_by (λ s. states_at z x (levels_then z s.levels last x) s) (map (state_of ys) held)) e in
       (passes-at (levels_then z h.levels last x) (state_of ys h) both.0, pass-by last ys held both.1)
 
-  pub have-to-pass : (last : ℕ) (ys : List Gone) (held : List Held)
+  pub have-to-pass : (last : ℕ) (ys : List Gone) (held : List StreamState)
       → led_by (λ s. states_at z x (levels_then z s.levels last x) s) (map (state_of ys) held) ≡ []
       → HaveToPass z last x held
   have-to-pass last ys held e =
       All-from_recursion
-      (λ (h : Held). IsTrue (has_to_pass (link z) z.by (charge z x) (levels_then z h.levels last x))) held
+      (λ (h : StreamState). IsTrue (has_to_pass (link z) z.by (charge z x) (levels_then z h.levels last x))) held
       (pass-by last ys held e)
 
   -- one more state where it was accepted
-  pub accepted-more : (last : ℕ) (ys : List Gone) (held : List Held) (h : Held)
+  pub accepted-more : (last : ℕ) (ys : List Gone) (held : List StreamState) (h : StreamState)
       → as_accepted z x (aged z last x (map (state_of ys) (held ++ (h ∷ []))))
       ≡ as_accepted z x (aged z last x (map (state_of ys) held))
       ++ (state_with (drop h.passed ys) (charged (link z) z.by (charge z x) (levels_then z h.levels last x)) h.waiting
@@ -170,7 +170,7 @@ module _ (z : Terms) (x : Arrival) where
 
 -- ---- bounds
 
-pub small-all : (rates : Rates) (frames count : ℕ) (held : List Held) → frames < most_held → count < most_held
+pub small-all : (rates : Rates) (frames count : ℕ) (held : List StreamState) → frames < most_held → count < most_held
     → All (λ h. IsWithin rates frames count h) held → All (λ h. IsSmall rates h) held
 small-all rates frames count held f n all =
     All-weaker (λ h. IsWithin rates frames count h) (λ h. IsSmall rates h)
@@ -180,27 +180,29 @@ small-all rates frames count held f n all =
       levels = w.levels;
     }) held all
 
-pub past-within : (rates : Rates) (frames count front to : ℕ) (held out : List Held) → to ≤ frames
+pub past-within : (rates : Rates) (frames count front to : ℕ) (held out : List StreamState) → to ≤ frames
     → out ≡ map (λ h. past to h) (filter (λ h. nat_eq h.passed front) held)
     → All (λ h. IsWithin rates frames count h) held → All (λ h. IsWithin rates frames count h) out
 past-within rates frames count front to held out le e all =
-    All-same (λ (h : Held). IsWithin rates frames count h) out
+    All-same (λ (h : StreamState). IsWithin rates frames count h) out
     (map (λ h. past to h) (filter (λ h. nat_eq h.passed front) held)) e
-    (All-map (λ (h : Held). IsWithin rates frames count h) (λ (h : Held). past to h)
+    (All-map (λ (h : StreamState). IsWithin rates frames count h) (λ (h : StreamState). past to h)
     (filter (λ h. nat_eq h.passed front) held)
-    (All-weaker (λ (h : Held). IsWithin rates frames count h) (λ (h : Held). IsWithin rates frames count (past to h))
+    (All-weaker (λ (h : StreamState). IsWithin rates frames count h)
+    (λ (h : StreamState). IsWithin rates frames count (past to h))
     (λ h w. record { passed = le; waiting = w.waiting; levels = w.levels; near = w.near })
     (filter (λ h. nat_eq h.passed front) held)
-    (All-filter (λ h. nat_eq h.passed front) (λ (h : Held). IsWithin rates frames count h) held all)))
+    (All-filter (λ h. nat_eq h.passed front) (λ (h : StreamState). IsWithin rates frames count h) held all)))
 
 -- ---- cases
 
-all-of : (P : Held → Type 0) (cases : List Case) → AllByRecursion P (map (λ (d : Case). d.held) cases)
+all-of : (P : StreamState → Type 0) (cases : List Case) → AllByRecursion P (map (λ (d : Case). d.held) cases)
     → AllByRecursion (λ (d : Case). P d.held) cases
 all-of P [] all = tt
 all-of P (d ∷ cases) all = (all.0, all-of P cases all.1)
 
-pub of-cases : (P : Held → Type 0) (cases : List Case) (held : List Held) → map (λ (d : Case). d.held) cases ≡ held
+pub of-cases : (P : StreamState → Type 0) (cases : List Case) (held : List StreamState) →
+    map (λ (d : Case). d.held) cases ≡ held
     → All P held → All (λ (d : Case). P d.held) cases
 of-cases P cases held e all =
     All-from_recursion (λ (d : Case). P d.held) cases

@@ -7,12 +7,12 @@ use Rattle.afdx_conform.specs.Growing.{IsSame, IsSameOrLater, due_at, due_by, du
 use Rattle.afdx_conform.specs.declared.arrived.Arrived.{Arrived}
 use Rattle.afdx_conform.specs.declared.growth.Growth.{Growth}
 use Rattle.afdx_conform.specs.declared.known_bytes.KnownBytes.{KnownBytes}
-use Rattle.afdx_conform.specs.declared.limits.Frame.{Frame}
+use Rattle.afdx_conform.specs.declared.limits.LeftFrame.{LeftFrame}
 use Rattle.afdx_conform.specs.declared.limits.Limits.{Limits}
 
 -- ---- one more arrival, one more frame
 
-in-came : (limits : Limits) (cs : List Arrived) (fs : List Frame) (a : Arrived)
+in-came : (limits : Limits) (cs : List Arrived) (fs : List LeftFrame) (a : Arrived)
     → IsSameOrLater (due_in limits cs fs) a.time (due_in limits (cs ++ (a ∷ [])) fs)
 in-came limits [] [] a = inr (omega arith)
 in-came limits [] (f ∷ fs) a = by (nat_lt (f.time + limits.reach) a.time)
@@ -24,7 +24,7 @@ in-came limits [] (f ∷ fs) a = by (nat_lt (f.time + limits.reach) a.time)
 in-came limits (c ∷ cs) [] a = inl refl
 in-came limits (c ∷ cs) (f ∷ fs) a = inl refl
 
-in-left : (limits : Limits) (cs : List Arrived) (fs : List Frame) (g : Frame)
+in-left : (limits : Limits) (cs : List Arrived) (fs : List LeftFrame) (g : LeftFrame)
     → IsSameOrLater (due_in limits cs fs) g.time (due_in limits cs (fs ++ (g ∷ [])))
 in-left limits [] [] g = inr (omega arith)
 in-left limits (c ∷ cs) [] g = by (nat_lt (g.time + limits.reach) c.time)
@@ -55,18 +55,19 @@ due-came old a arrivals' count known' items le =
     ∙ drop-append-le (length old.judging.marks.items) old.arrivals.items (a ∷ []) le))
     (by-unsure old.judging.is_unsure a.time _ _ (in-came old.bounds.limits cs fs a))
 
-pub due-left : (old : Growth) (f : Frame) (frames' : Vec Frame) (count : ℕ)
+pub due-left : (old : Growth) (f : LeftFrame) (frames' : Vec LeftFrame) (count : ℕ)
     → frames'.items ≡ old.frames.items ++ (f ∷ []) → old.closed ≤ length old.frames.items
     → IsSameOrLater (due_by old) f.time (due_by (record old { frames = frames'; left = count }))
 unfolding due_by
 due-left old f frames' count items le =
     let fs = drop old.closed old.frames.items in
     let cs = drop (length old.judging.marks.items) old.arrivals.items in
-    subst (λ (l : List Frame). IsSameOrLater (if old.judging.is_unsure then None else due_in old.bounds.limits
+    subst (λ (l : List LeftFrame). IsSameOrLater (if old.judging.is_unsure then None else due_in old.bounds.limits
     (drop (length old.judging.marks.items) old.arrivals.items) (drop old.closed old.frames.items)) f.time
     (if old.judging.is_unsure then None else due_in old.bounds.limits
     (drop (length old.judging.marks.items) old.arrivals.items) l))
-    (sym (ap (λ (l : List Frame). drop old.closed l) items ∙ drop-append-le old.closed old.frames.items (f ∷ []) le))
+    (sym (ap (λ (l : List LeftFrame). drop old.closed l) items ∙
+    drop-append-le old.closed old.frames.items (f ∷ []) le))
     (by-unsure old.judging.is_unsure f.time _ _ (in-left old.bounds.limits cs fs f))
 
 -- nothing is judged any more
@@ -91,7 +92,7 @@ due-same old new s =
     (drop (length new.judging.marks.items) l) (drop new.closed new.frames.items)) s.arrivals
     ∙ ap (λ (n : ℕ). if old.judging.is_unsure then None else due_in old.bounds.limits
     (drop n old.arrivals.items) (drop new.closed new.frames.items)) (ap (λ l. length l) s.marks)
-    ∙ ap (λ (l : List Frame). if old.judging.is_unsure then None else due_in old.bounds.limits
+    ∙ ap (λ (l : List LeftFrame). if old.judging.is_unsure then None else due_in old.bounds.limits
     (drop (length old.judging.marks.items) old.arrivals.items) (drop new.closed l)) s.frames
     ∙ ap (λ (n : ℕ). if old.judging.is_unsure then None else due_in old.bounds.limits
     (drop (length old.judging.marks.items) old.arrivals.items) (drop n old.frames.items)) s.closed

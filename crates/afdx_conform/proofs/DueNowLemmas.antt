@@ -6,7 +6,7 @@ use Rattle.std.specs.Prelude.{if◌then◌else◌, Some, None}
 use Rattle.afdx_conform.specs.Growing.{due_at, due_by, due_in}
 use Rattle.afdx_conform.specs.declared.arrived.Arrived.{Arrived}
 use Rattle.afdx_conform.specs.declared.growth.Growth.{Growth}
-use Rattle.afdx_conform.specs.declared.limits.Frame.{Frame}
+use Rattle.afdx_conform.specs.declared.limits.LeftFrame.{LeftFrame}
 use Rattle.afdx_conform.specs.declared.limits.Limits.{Limits}
 use Rattle.afdx_conform.proofs.HeldLemmas.{if-true, if-false}
 
@@ -19,15 +19,15 @@ head-is zero (y ∷ xs) rest x e = by e
     by k = cc
 head-is (suc n) (y ∷ xs) rest x e = head-is n xs rest x e
 
-in-arrival : (limits : Limits) (a : Arrived) (rest : List Arrived) (fs : List Frame)
-    → ((f : Frame) (more : List Frame) → fs ≡ f ∷ more → a.time ≤ f.time + limits.reach)
+in-arrival : (limits : Limits) (a : Arrived) (rest : List Arrived) (fs : List LeftFrame)
+    → ((f : LeftFrame) (more : List LeftFrame) → fs ≡ f ∷ more → a.time ≤ f.time + limits.reach)
     → Some (due_at limits a.time) ≡ due_in limits (a ∷ rest) fs
 in-arrival limits a rest [] h = refl
 in-arrival limits a rest (f ∷ fs) h =
     sym (ap (λ (b : Bool). if b then Some (due_at limits (f.time + limits.reach)) else Some (due_at limits a.time))
     (le-ltb (f.time + limits.reach) a.time (h f fs refl)))
 
-in-closing : (limits : Limits) (f : Frame) (rest : List Frame) (come : List Arrived)
+in-closing : (limits : Limits) (f : LeftFrame) (rest : List LeftFrame) (come : List Arrived)
     → ((a : Arrived) (more : List Arrived) → come ≡ a ∷ more → f.time + limits.reach < a.time)
     → Some (due_at limits (f.time + limits.reach)) ≡ due_in limits come (f ∷ rest)
 in-closing limits f rest [] h = refl
@@ -62,11 +62,11 @@ module _ (g : Growth) where
       sym (sure-is sure
       ∙ ap (λ (l : List Arrived). due_in g.bounds.limits l (drop g.closed g.frames.items))
       (drop_all Place g.arrivals.items arrivals)
-      ∙ ap (λ (l : List Frame). due_in g.bounds.limits [] l) (drop_all g.closed g.frames.items frames))
+      ∙ ap (λ (l : List LeftFrame). due_in g.bounds.limits [] l) (drop_all g.closed g.frames.items frames))
 
   pub due-arrival : (a : Arrived) (moment : ℕ) → g.judging.is_unsure ≡ false → Place < length g.arrivals.items
       → a ≡ get_or g.arrivals.items Place a
-      → ((f : Frame) → g.closed < length g.frames.items → f ≡ get_or g.frames.items g.closed f
+      → ((f : LeftFrame) → g.closed < length g.frames.items → f ≡ get_or g.frames.items g.closed f
       → a.time ≤ f.time + g.bounds.limits.reach)
       → moment ≡ due_at g.bounds.limits a.time → Some moment ≡ due_by g
   due-arrival a moment sure lt at first is =
@@ -79,7 +79,7 @@ module _ (g : Growth) where
       (sym (drop_more g.arrivals.items Place a lt))
       ∙ sym (sure-is sure)
 
-  pub due-closing : (f : Frame) (moment : ℕ) → g.judging.is_unsure ≡ false → g.closed < length g.frames.items
+  pub due-closing : (f : LeftFrame) (moment : ℕ) → g.judging.is_unsure ≡ false → g.closed < length g.frames.items
       → f ≡ get_or g.frames.items g.closed f
       → ((a : Arrived) → Place < length g.arrivals.items → a ≡ get_or g.arrivals.items Place a
       → f.time + g.bounds.limits.reach < a.time)
@@ -88,8 +88,8 @@ module _ (g : Growth) where
       ap (λ (n : ℕ). Some n) is
       ∙ in-closing g.bounds.limits f (drop (g.closed + 1) g.frames.items) (drop Place g.arrivals.items)
       (λ a more e. before a (less-than Place g.arrivals.items more a e) (head-is Place g.arrivals.items more a e))
-      ∙ ap (λ (v : Frame). due_in g.bounds.limits (drop Place g.arrivals.items)
+      ∙ ap (λ (v : LeftFrame). due_in g.bounds.limits (drop Place g.arrivals.items)
       (v ∷ drop (g.closed + 1) g.frames.items)) at
-      ∙ ap (λ (l : List Frame). due_in g.bounds.limits (drop Place g.arrivals.items) l)
+      ∙ ap (λ (l : List LeftFrame). due_in g.bounds.limits (drop Place g.arrivals.items) l)
       (sym (drop_more g.frames.items g.closed f lt))
       ∙ sym (sure-is sure)

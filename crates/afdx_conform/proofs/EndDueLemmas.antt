@@ -12,9 +12,9 @@ use Rattle.afdx_conform.specs.States.{Event}
 use Rattle.afdx_conform.specs.Streams.{Gone, Terms}
 use Rattle.afdx_conform.specs.declared.arrived.Arrived.{Arrived}
 use Rattle.afdx_conform.specs.declared.growth.Growth.{Growth}
-use Rattle.afdx_conform.specs.declared.limits.Frame.{Frame}
+use Rattle.afdx_conform.specs.declared.limits.LeftFrame.{LeftFrame}
 use Rattle.afdx_conform.specs.declared.limits.Limits.{Limits}
-use Rattle.afdx_conform.specs.declared.states.Held.{Held}
+use Rattle.afdx_conform.specs.declared.states.StreamState.{StreamState}
 use Rattle.afdx_conform.proofs.EndingLemmas.{ended}
 use Rattle.afdx_conform.proofs.EveryLemmas.{every-right, every-unmap}
 use Rattle.afdx_conform.proofs.HistoryLemmas.{every-drop}
@@ -24,7 +24,7 @@ due-itself None = refl
 due-itself (Some moment) = omega arith
 
 -- of the first of these frames
-due-first : (limits : Limits) (cs : List Arrived) (fs : List Frame) (n : ℕ)
+due-first : (limits : Limits) (cs : List Arrived) (fs : List LeftFrame) (n : ℕ)
     → IsDueLater (due_in limits cs fs) (due_in limits cs (take n fs))
 due-first limits cs [] zero = due-itself (due_in limits cs [])
 due-first limits cs [] (suc n) = due-itself (due_in limits cs [])
@@ -39,9 +39,9 @@ due-first limits (a ∷ cs) (f ∷ fs) zero = by (nat_lt (f.time + limits.reach)
 due-first limits [] (f ∷ fs) (suc n) = due-itself (due_in limits [] (f ∷ fs))
 due-first limits (a ∷ cs) (f ∷ fs) (suc n) = due-itself (due_in limits (a ∷ cs) (f ∷ fs))
 
-due-same : (limits : Limits) (until : ℕ) (cs : List Arrived) (fs : List Frame) (n : ℕ)
+due-same : (limits : Limits) (until : ℕ) (cs : List Arrived) (fs : List LeftFrame) (n : ℕ)
     → AllByRecursion (λ a. a.time ≤ until) cs
-    → ((f : Frame) (rest : List Frame) → n ≡ 0 → fs ≡ f ∷ rest → until < f.time + limits.reach)
+    → ((f : LeftFrame) (rest : List LeftFrame) → n ≡ 0 → fs ≡ f ∷ rest → until < f.time + limits.reach)
     → (due_in limits cs (take n fs) ≡ due_in limits cs fs) ⊎ (due_in limits cs (take n fs) ≡ None)
 due-same limits until cs [] zero h c = inl refl
 due-same limits until cs [] (suc n) h c = inl refl
@@ -64,12 +64,13 @@ same-unsure : (u : Bool) (before after : Option ℕ) → (after ≡ before) ⊎ 
 same-unsure true before after h = inl refl
 same-unsure false before after h = h
 
-drop-first : (fs : List Frame) (n k : ℕ) → n ≤ k → drop n (take k fs) ≡ take (k - n) (drop n fs)
+drop-first : (fs : List LeftFrame) (n k : ℕ) → n ≤ k → drop n (take k fs) ≡ take (k - n) (drop n fs)
 drop-first fs n k le =
     let same : n + (k - n) ≡ k = omega (arith, le) in
     ap (λ (m : ℕ). drop n (take m fs)) (sym same) ∙ drop-take n (k - n) fs
 
-head-at : (fs : List Frame) (n : ℕ) (f : Frame) (rest : List Frame) → drop n fs ≡ f ∷ rest → f ≡ get_or fs n f
+head-at : (fs : List LeftFrame) (n : ℕ) (f : LeftFrame) (rest : List LeftFrame) → drop n fs ≡ f ∷ rest → f ≡
+    get_or fs n f
 head-at [] zero f rest e = absurd (cc)
 head-at [] (suc n) f rest e = absurd (cc)
 head-at (g ∷ fs) zero f rest e = by e
@@ -78,7 +79,7 @@ head-at (g ∷ fs) zero f rest e = by e
     by k = cc
 head-at (g ∷ fs) (suc n) f rest e = head-at fs n f rest e
 
-module _ (old : Growth) (frames' : Vec Frame) (held' : Vec Held) (kept count : ℕ)
+module _ (old : Growth) (frames' : Vec LeftFrame) (held' : Vec StreamState) (kept count : ℕ)
     (items : frames'.items ≡ take kept old.frames.items) (low : old.closed ≤ kept) where
   abbrev New : Growth
   New = ended old frames' held' count
@@ -87,11 +88,11 @@ module _ (old : Growth) (frames' : Vec Frame) (held' : Vec Held) (kept count : �
   Coming = drop (length old.judging.marks.items) old.arrivals.items
 
   left-is : drop old.closed frames'.items ≡ take (kept - old.closed) (drop old.closed old.frames.items)
-  left-is = ap (λ (l : List Frame). drop old.closed l) items ∙ drop-first old.frames.items old.closed kept low
+  left-is = ap (λ (l : List LeftFrame). drop old.closed l) items ∙ drop-first old.frames.items old.closed kept low
 
   pub due-end : IsDueLater (due_by old) (due_by New)
   unfolding due_by
-  due-end = subst (λ (l : List Frame). IsDueLater
+  due-end = subst (λ (l : List LeftFrame). IsDueLater
       (if old.judging.is_unsure then None else due_in old.bounds.limits Coming (drop old.closed old.frames.items))
       (if old.judging.is_unsure then None else due_in old.bounds.limits Coming l)) (sym left-is)
       (by-unsure old.judging.is_unsure (due_in old.bounds.limits Coming (drop old.closed old.frames.items)) _
@@ -99,12 +100,12 @@ module _ (old : Growth) (frames' : Vec Frame) (held' : Vec Held) (kept count : �
 
   pub due-then : (z : Terms) (xs : List Arrival) (ys : List Gone) (over : List Event) (until : ℕ)
       → old.judging.is_unsure ≡ false → AllByRecursion (λ x. x.time ≤ until) xs → IsAfter z xs ys 0 over old
-      → ((g : Frame) → kept < length old.frames.items → g ≡ get_or old.frames.items kept g
+      → ((g : LeftFrame) → kept < length old.frames.items → g ≡ get_or old.frames.items kept g
       → until < g.time + old.bounds.limits.reach)
       → (due_by New ≡ due_by old) ⊎ (due_by New ≡ None)
   unfolding due_by
   due-then z xs ys over until sure all f cuts =
-      subst (λ (l : List Frame). ((if old.judging.is_unsure then None else due_in old.bounds.limits Coming l)
+      subst (λ (l : List LeftFrame). ((if old.judging.is_unsure then None else due_in old.bounds.limits Coming l)
       ≡ (if old.judging.is_unsure then None else due_in old.bounds.limits Coming (drop old.closed old.frames.items)))
       ⊎ ((if old.judging.is_unsure then None else due_in old.bounds.limits Coming l) ≡ None)) (sym left-is)
       (same-unsure old.judging.is_unsure (due_in old.bounds.limits Coming (drop old.closed old.frames.items)) _
@@ -118,11 +119,12 @@ module _ (old : Growth) (frames' : Vec Frame) (held' : Vec Held) (kept count : �
           (every-right (λ x. x.time ≤ until) (map (λ m. m.arrival) h.gone) (map arrival_of old.arrivals.items)
           (subst (λ (l : List Arrival). AllByRecursion (λ x. x.time ≤ until) l) h.kept.came all)))
 
-      off : (g : Frame) (rest : List Frame) → kept - old.closed ≡ 0 → drop old.closed old.frames.items ≡ g ∷ rest
+      off : (g : LeftFrame) (rest : List LeftFrame) → kept - old.closed ≡ 0 → drop old.closed old.frames.items ≡
+          g ∷ rest
           → until < g.time + old.bounds.limits.reach
       off g rest none e =
           let here : old.closed ≡ kept = omega (arith, none, low) in
           let size = length-drop old.closed old.frames.items in
-          let some = ap (λ (l : List Frame). length l) e in
+          let some = ap (λ (l : List LeftFrame). length l) e in
           cuts g (omega (arith, here, size, some))
           (subst (λ (n : ℕ). g ≡ get_or old.frames.items n g) here (head-at old.frames.items old.closed g rest e))

@@ -7,15 +7,15 @@ use Rattle.afdx_conform.specs.Growing.{IsSound}
 use Rattle.afdx_conform.specs.HeldStates.{IsWithin}
 use Rattle.afdx_conform.specs.declared.growth.Growth.{Growth}
 use Rattle.afdx_conform.specs.declared.levels.Rates.{Rates}
-use Rattle.afdx_conform.specs.declared.limits.Frame.{Frame}
-use Rattle.afdx_conform.specs.declared.states.Held.{Held}
+use Rattle.afdx_conform.specs.declared.limits.LeftFrame.{LeftFrame}
+use Rattle.afdx_conform.specs.declared.states.StreamState.{StreamState}
 
-known-within : (rates : Rates) (frames count : ℕ) (b : Bool) (held : List Held)
+known-within : (rates : Rates) (frames count : ℕ) (b : Bool) (held : List StreamState)
     → All (λ h. IsWithin rates frames count h) held → All (λ h. IsWithin rates frames count h) (if b then held else [])
 known-within rates frames count true held all = all
 known-within rates frames count false held all = λ i d lt. absurd (omega (arith, lt))
 
-few-within : (rates : Rates) (frames kept count front : ℕ) (held : List Held)
+few-within : (rates : Rates) (frames kept count front : ℕ) (held : List StreamState)
     → All (λ h. IsWithin rates frames count h) held
     → All (λ h. h.passed ≤ front) held → front ≤ kept → All (λ h. IsWithin rates kept count h) held
 few-within rates frames kept count front held all few le i d lt =
@@ -23,7 +23,7 @@ few-within rates frames kept count front held all few le i d lt =
     let p = few i d lt in
     record { passed = omega (arith, p, le); waiting = h.waiting; levels = h.levels; near = h.near }
 
-pub sound-end : (old : Growth) (frames' : Vec Frame) (held' : Vec Held) (front kept size : ℕ)
+pub sound-end : (old : Growth) (frames' : Vec LeftFrame) (held' : Vec StreamState) (front kept size : ℕ)
     → held'.items ≡ (if old.is_started then old.judging.held.items else []) → frames'.items ≡ take kept old.frames.items
     → All (λ h. h.passed ≤ front) held'.items → front ≤ kept → old.closed ≤ kept → kept ≤ length old.frames.items
     → size ≡ length old.frames.items → IsSound old
@@ -34,7 +34,7 @@ pub sound-end : (old : Growth) (frames' : Vec Frame) (held' : Vec Held) (front k
       cut = old.cut + (size - kept);
     })
 sound-end old frames' held' front kept size held items few low closed high whole s =
-    let size' : length frames'.items ≡ kept = ap (λ (l : List Frame). length l) items
+    let size' : length frames'.items ≡ kept = ap (λ (l : List LeftFrame). length l) items
     ∙ length-take-le kept old.frames.items high in
     let f = s.frames in
     let l = s.left in
@@ -43,7 +43,7 @@ sound-end old frames' held' front kept size held items few low closed high whole
       within = subst (λ (n : ℕ). All (λ h. IsWithin old.bounds.rates n (length old.judging.marks.items) h)
           held'.items) (sym size')
           (few-within old.bounds.rates (length old.frames.items) kept (length old.judging.marks.items) front held'.items
-          (subst (λ (k : List Held). All (λ h. IsWithin old.bounds.rates (length old.frames.items)
+          (subst (λ (k : List StreamState). All (λ h. IsWithin old.bounds.rates (length old.frames.items)
           (length old.judging.marks.items) h) k) (sym held)
           (known-within old.bounds.rates (length old.frames.items) (length old.judging.marks.items) old.is_started
           old.judging.held.items s.within)) few low);

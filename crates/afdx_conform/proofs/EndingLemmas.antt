@@ -21,8 +21,8 @@ use Rattle.afdx_conform.specs.Limits.{gone_of}
 use Rattle.afdx_conform.specs.States.{Event}
 use Rattle.afdx_conform.specs.Streams.{Gone, Terms, fits}
 use Rattle.afdx_conform.specs.declared.growth.Growth.{Growth}
-use Rattle.afdx_conform.specs.declared.limits.Frame.{Frame}
-use Rattle.afdx_conform.specs.declared.states.Held.{Held}
+use Rattle.afdx_conform.specs.declared.limits.LeftFrame.{LeftFrame}
+use Rattle.afdx_conform.specs.declared.states.StreamState.{StreamState}
 use Rattle.afdx_conform.proofs.CuttingLemmas.{IsCutOff, IsShown, IsCommon, IsSplit, all-same, all-shown, are-late, closed-shown, common, passed-low, split}
 use Rattle.afdx_conform.proofs.EveryLemmas.{every-left, every-on, every-right}
 use Rattle.afdx_conform.proofs.GrowthFrames.{judged-late, shown-late, states-more}
@@ -32,16 +32,16 @@ use Rattle.afdx_conform.proofs.MomentLemmas.{up-left}
 
 -- ---- frames at places
 
-record IsAt (fs : List Frame) (k : ℕ) : Type 0 where
-  pub frame : Frame
+record IsAt (fs : List LeftFrame) (k : ℕ) : Type 0 where
+  pub frame : LeftFrame
   pub at : frame ≡ get_or fs k frame
 
-some-at : (fs : List Frame) (k : ℕ) → k < length fs → IsAt fs k
+some-at : (fs : List LeftFrame) (k : ℕ) → k < length fs → IsAt fs k
 some-at [] k lt = absurd (omega (arith, lt))
 some-at (f ∷ fs) zero lt = record { frame = f; at = refl }
 some-at (f ∷ fs) (suc k) lt = let s = some-at fs k (omega (arith, lt)) in record { frame = s.frame; at = s.at }
 
-at-first : (P : Gone → Type 0) (fs : List Frame) (here off : List Gone) (k : ℕ) (d : Frame)
+at-first : (P : Gone → Type 0) (fs : List LeftFrame) (here off : List Gone) (k : ℕ) (d : LeftFrame)
     → map gone_of fs ≡ here ++ off
     → k < length here → AllByRecursion P here → P (gone_of (get_or fs k d))
 at-first P fs [] off k d e lt h = absurd (omega (arith, lt))
@@ -55,7 +55,8 @@ at-first P (f ∷ fs) (y ∷ here) off (suc k) d e lt h = at-first P fs here off
     tails : gone_of f ∷ map gone_of fs ≡ y ∷ (here ++ off) → map gone_of fs ≡ here ++ off
     tails k = cc
 
-at-next : (P : Gone → Type 0) (fs : List Frame) (here off : List Gone) (d : Frame) → map gone_of fs ≡ here ++ off
+at-next : (P : Gone → Type 0) (fs : List LeftFrame) (here off : List Gone) (d : LeftFrame) → map gone_of fs ≡
+    here ++ off
     → 0 < length off → AllByRecursion P off → P (gone_of (get_or fs (length here) d))
 at-next P fs [] [] d e lt h = absurd (omega (arith, lt))
 at-next P [] [] (y ∷ off) d e lt h = absurd (cc)
@@ -70,7 +71,7 @@ at-next P (f ∷ fs) (y ∷ here) off d e lt h = at-next P fs here off d (tails 
     tails k = cc
 
 -- the first of them are these
-first-are : (fs : List Frame) (here off : List Gone) → map gone_of fs ≡ here ++ off
+first-are : (fs : List LeftFrame) (here off : List Gone) → map gone_of fs ≡ here ++ off
     → map gone_of (take (length here) fs) ≡ here
 first-are fs [] off e = refl
 first-are [] (y ∷ here) off e = absurd (cc)
@@ -85,11 +86,11 @@ first-are (f ∷ fs) (y ∷ here) off e =
     tails k = cc
 
 -- as many are kept as aren't cut off, however many were looked at
-kept-is : (z : Terms) (fs : List Frame) (here off : List Gone) (apart from kept : ℕ) → apart ≡ reach z.by
+kept-is : (z : Terms) (fs : List LeftFrame) (here off : List Gone) (apart from kept : ℕ) → apart ≡ reach z.by
     → map gone_of fs ≡ here ++ off → AllByRecursion (IsShown z) here → AllByRecursion (IsCutOff z) off
     → from ≤ length here
-    → ((k : ℕ) (f : Frame) → from ≤ k → k < kept → f ≡ get_or fs k f → f.time + apart ≤ z.until)
-    → ((f : Frame) → kept < length fs → f ≡ get_or fs kept f → z.until < f.time + apart)
+    → ((k : ℕ) (f : LeftFrame) → from ≤ k → k < kept → f ≡ get_or fs k f → f.time + apart ≤ z.until)
+    → ((f : LeftFrame) → kept < length fs → f ≡ get_or fs kept f → z.until < f.time + apart)
     → kept ≤ length fs → kept ≡ length here
 kept-is z fs here off apart from kept same e inside outside low shown cut high =
     by (nat_lt kept (length here)) refl (nat_lt (length here) kept) refl
@@ -101,7 +102,7 @@ kept-is z fs here off apart from kept same e inside outside low shown cut high =
     not-less lt =
         let some = some-at fs kept (omega (arith, lt, size)) in
         let one = cut some.frame (omega (arith, lt, size)) some.at in
-        let two = subst (λ (f : Frame). f.time + reach z.by ≤ z.until) (sym some.at)
+        let two = subst (λ (f : LeftFrame). f.time + reach z.by ≤ z.until) (sym some.at)
         (at-first (IsShown z) fs here off kept some.frame e lt inside) in
         omega (arith, one, two, same)
 
@@ -109,7 +110,7 @@ kept-is z fs here off apart from kept same e inside outside low shown cut high =
     not-more lt =
         let some = some-at fs (length here) (omega (arith, lt, high)) in
         let one = shown (length here) some.frame low lt some.at in
-        let two = subst (λ (f : Frame). z.until < f.time + reach z.by) (sym some.at)
+        let two = subst (λ (f : LeftFrame). z.until < f.time + reach z.by) (sym some.at)
         (at-next (IsCutOff z) fs here off some.frame e (omega (arith, lt, high, size)) outside) in
         omega (arith, one, two, same)
 
@@ -122,7 +123,7 @@ kept-is z fs here off apart from kept same e inside outside low shown cut high =
         omega (arith, one, two)
 
 -- once it has ended
-abbrev pub ended : Growth → Vec Frame → Vec Held → ℕ → Growth
+abbrev pub ended : Growth → Vec LeftFrame → Vec StreamState → ℕ → Growth
 ended old frames' held' count = record old {
   frames = frames';
   judging = record old.judging { held = held' };
@@ -171,13 +172,14 @@ module _ (z : Terms) (xs : List Arrival) (us off : List Gone) (time : ℕ) (over
       by (v ∷ before) s told ev ov = judged-late z xs us off time v before told ev le (are-late z time off le outside)
           ov
 
-  module _ (frames' : Vec Frame) (held' : Vec Held) (front kept count cut : ℕ) (h : IsHeld z xs (us ++ off) 0 over old)
+  module _ (frames' : Vec LeftFrame) (held' : Vec StreamState) (front kept count cut : ℕ)
+      (h : IsHeld z xs (us ++ off) 0 over old)
       (states : held'.items ≡ (if old.is_started then old.judging.held.items else []))
       (items : frames'.items ≡ take kept old.frames.items)
-      (among : ((held'.items ≡ []) × (front ≡ 0)) ⊎ ((s : Held) × Contains held'.items s × (s.passed ≡ front)))
-      (shows : (k : ℕ) (g : Frame) → max front old.closed ≤ k → k < kept → g ≡ get_or old.frames.items k g
+      (among : ((held'.items ≡ []) × (front ≡ 0)) ⊎ ((s : StreamState) × Contains held'.items s × (s.passed ≡ front)))
+      (shows : (k : ℕ) (g : LeftFrame) → max front old.closed ≤ k → k < kept → g ≡ get_or old.frames.items k g
       → g.time + old.bounds.limits.reach ≤ z.until)
-      (cuts : (g : Frame) → kept < length old.frames.items → g ≡ get_or old.frames.items kept g
+      (cuts : (g : LeftFrame) → kept < length old.frames.items → g ≡ get_or old.frames.items kept g
       → z.until < g.time + old.bounds.limits.reach)
       (high : kept ≤ length old.frames.items) (counted : count ≡ length old.frames.items - kept)
       (all : cut ≡ length off) where
@@ -220,7 +222,7 @@ module _ (z : Terms) (xs : List Arrival) (us off : List Gone) (time : ℕ) (over
         (states-are s)
 
     low-held : AllByRecursion (λ s. s.passed ≤ length c.here) held'.items
-    low-held = subst (λ (l : List Held). AllByRecursion (λ s. s.passed ≤ length c.here) l) (sym states)
+    low-held = subst (λ (l : List StreamState). AllByRecursion (λ s. s.passed ≤ length c.here) l) (sym states)
         (by old.is_started refl)
       where
         by : (b : Bool) → old.is_started ≡ b
@@ -231,7 +233,7 @@ module _ (z : Terms) (xs : List Arrival) (us off : List Gone) (time : ℕ) (over
     front-low : front ≤ length c.here
     front-low = by among
       where
-        by : ((held'.items ≡ []) × (front ≡ 0)) ⊎ ((s : Held) × Contains held'.items s × (s.passed ≡ front))
+        by : ((held'.items ≡ []) × (front ≡ 0)) ⊎ ((s : StreamState) × Contains held'.items s × (s.passed ≡ front))
             → front ≤ length c.here
         by (inl e) = let none = e.1 in omega (arith, none)
         by (inr e) =
@@ -249,7 +251,7 @@ module _ (z : Terms) (xs : List Arrival) (us off : List Gone) (time : ℕ) (over
         shows cuts high
 
     frames-are : map gone_of frames'.items ≡ c.here
-    frames-are = ap (λ (l : List Frame). map gone_of l) (items ∙ ap (λ (n : ℕ). take n old.frames.items) kept-here)
+    frames-are = ap (λ (l : List LeftFrame). map gone_of l) (items ∙ ap (λ (n : ℕ). take n old.frames.items) kept-here)
         ∙ first-are old.frames.items c.here off c.behind
 
     frames-size : length frames'.items ≡ length c.here
@@ -292,14 +294,14 @@ module _ (z : Terms) (xs : List Arrival) (us off : List Gone) (time : ℕ) (over
           same = ap (λ (u : Judged). with_states j.states u) (k.same ∙ more);
           stands = record {
             states = ap (λ (l : List Gone). map (state_of l) held'.items) frames-are
-                ∙ ap (λ (l : List Held). map (state_of c.here) l) held-is
+                ∙ ap (λ (l : List StreamState). map (state_of c.here) l) held-is
                 ∙ all-same z off (map (state_of c.here) old.judging.held.items) j.states
                 (sym (states-more c.here off old.judging.held.items (length c.here)
                 (All-from_recursion (λ v. v.passed ≤ length c.here) old.judging.held.items (low-passed s))
                 (omega arith))
                 ∙ ap (λ (l : List Gone). map (state_of l) old.judging.held.items) (sym c.behind)
                 ∙ states-are s);
-            within = subst (λ (l : List Held). All (λ v. IsWithin old.bounds.rates (length frames'.items)
+            within = subst (λ (l : List StreamState). All (λ v. IsWithin old.bounds.rates (length frames'.items)
                 (length old.judging.marks.items) v) l) (sym held-is)
                 (λ i d lt.
                 let v = k.stands.within i d lt in
@@ -341,13 +343,13 @@ module _ (z : Terms) (xs : List Arrival) (ys : List Gone) (time : ℕ) (over : L
   end-unsure un = ended-unsure z xs (uncut z ys) Split.off time over old le o (all-shown z ys) Split.are_off f'
       (length ys - length (uncut z ys)) un
 
-  pub after-end : (frames' : Vec Frame) (held' : Vec Held) (front kept count : ℕ)
+  pub after-end : (frames' : Vec LeftFrame) (held' : Vec StreamState) (front kept count : ℕ)
       → held'.items ≡ (if old.is_started then old.judging.held.items else [])
       → frames'.items ≡ take kept old.frames.items
-      → ((held'.items ≡ []) × (front ≡ 0)) ⊎ ((s : Held) × Contains held'.items s × (s.passed ≡ front))
-      → ((k : ℕ) (g : Frame) → max front old.closed ≤ k → k < kept → g ≡ get_or old.frames.items k g
+      → ((held'.items ≡ []) × (front ≡ 0)) ⊎ ((s : StreamState) × Contains held'.items s × (s.passed ≡ front))
+      → ((k : ℕ) (g : LeftFrame) → max front old.closed ≤ k → k < kept → g ≡ get_or old.frames.items k g
       → g.time + old.bounds.limits.reach ≤ z.until)
-      → ((g : Frame) → kept < length old.frames.items → g ≡ get_or old.frames.items kept g
+      → ((g : LeftFrame) → kept < length old.frames.items → g ≡ get_or old.frames.items kept g
       → z.until < g.time + old.bounds.limits.reach)
       → kept ≤ length old.frames.items → count ≡ length old.frames.items - kept
       → IsAfter z xs (uncut z ys) (length ys - length (uncut z ys)) over (ended old frames' held' count)

@@ -10,7 +10,7 @@ use Rattle.afdx_conform.specs.Findings.{are_same, does_more, one_more, thinned_o
 use Rattle.afdx_conform.specs.HeldStates.{state_of, outdoes, kept_with}
 use Rattle.afdx_conform.specs.States.{State}
 use Rattle.afdx_conform.specs.Streams.{Gone}
-use Rattle.afdx_conform.specs.declared.states.Held.{Held}
+use Rattle.afdx_conform.specs.declared.states.StreamState.{StreamState}
 use Rattle.afdx_conform.proofs.FrontLemmas.{same-is}
 use Rattle.afdx_conform.proofs.KeepLemmas.{all-filter, all-with}
 
@@ -40,24 +40,24 @@ same-drops ys p q hp hq = by (nat_eq p q) (are_same (drop p ys) (drop q ys)) ref
         absurd (eqb-false p q e is)
 
 module _ (ys : List Gone) where
-  abbrev pub IsWithin : Held → Type 0
+  abbrev pub IsWithin : StreamState → Type 0
   IsWithin h = h.passed ≤ length ys
 
-  outdoes-same : (a b : Held) → IsWithin a → IsWithin b → outdoes a b ≡ does_more (state_of ys a) (state_of ys b)
+  outdoes-same : (a b : StreamState) → IsWithin a → IsWithin b → outdoes a b ≡ does_more (state_of ys a) (state_of ys b)
   unfolding outdoes does_more
   outdoes-same a b ha hb =
       ap (λ (t : Bool). t && nat_le a.levels.lo b.levels.lo && nat_le b.levels.hi a.levels.hi && nat_le a.waiting
       b.waiting)
       (same-drops ys a.passed b.passed ha hb)
 
-  any-same : (s : Held) (xs : List Held) → IsWithin s → AllByRecursion IsWithin xs
+  any-same : (s : StreamState) (xs : List StreamState) → IsWithin s → AllByRecursion IsWithin xs
       → list_any (λ x. outdoes x s) xs ≡ list_any (λ t. does_more t (state_of ys s)) (map (state_of ys) xs)
   any-same s [] h all = refl
   any-same s (x ∷ xs) h all =
       ap (λ (t : Bool). t || list_any (λ w. outdoes w s) xs) (outdoes-same x s all.0 h)
       ∙ ap (λ (t : Bool). does_more (state_of ys x) (state_of ys s) || t) (any-same s xs h all.1)
 
-  filter-same-states : (s : Held) (xs : List Held) → IsWithin s → AllByRecursion IsWithin xs
+  filter-same-states : (s : StreamState) (xs : List StreamState) → IsWithin s → AllByRecursion IsWithin xs
       → map (state_of ys) (filter (λ x. not (outdoes s x)) xs)
       ≡ filter (λ t. not (does_more (state_of ys s) t)) (map (state_of ys) xs)
   filter-same-states s [] h all = refl
@@ -77,7 +77,7 @@ module _ (ys : List Gone) where
       by true false e more = absurd (cc)
       by false true e more = absurd (cc)
 
-  with-same : (s : Held) (xs : List Held) → IsWithin s → AllByRecursion IsWithin xs
+  with-same : (s : StreamState) (xs : List StreamState) → IsWithin s → AllByRecursion IsWithin xs
       → map (state_of ys) (kept_with s xs) ≡ one_more (state_of ys s) (map (state_of ys) xs)
   unfolding kept_with one_more
   with-same s xs h all = by (list_any (λ x. outdoes x s) xs) (list_any (λ t. does_more t (state_of ys s))
@@ -94,7 +94,7 @@ module _ (ys : List Gone) where
       by true false e = absurd (cc)
       by false true e = absurd (cc)
 
-  within-with : (s : Held) (xs : List Held) → IsWithin s → AllByRecursion IsWithin xs
+  within-with : (s : StreamState) (xs : List StreamState) → IsWithin s → AllByRecursion IsWithin xs
       → AllByRecursion IsWithin (kept_with s xs)
   unfolding kept_with
   within-with s xs h all = by (list_any (λ x. outdoes x s) xs)
@@ -110,7 +110,7 @@ thinned-more few [] s = refl
 thinned-more few (x ∷ xs) s = thinned-more (one_more x few) xs s
 
 -- so far the code keeps what the definition does
-pub record AreFew (ys : List Gone) (few all : List Held) : Type 0 where
+pub record AreFew (ys : List Gone) (few all : List StreamState) : Type 0 where
   pub same : map (state_of ys) few ≡ thinned_onto [] (map (state_of ys) all)
   pub within : AllByRecursion (λ h. h.passed ≤ length ys) few
 
@@ -121,17 +121,18 @@ none = refl
 pub few-none : (ys : List Gone) → AreFew ys [] []
 few-none ys = record { same = none; within = tt }
 
-pub few-next : (ys : List Gone) (xs few more : List Held) (i : ℕ) (d : Held) → i < length xs
+pub few-next : (ys : List Gone) (xs few more : List StreamState) (i : ℕ) (d : StreamState) → i < length xs
     → (get_or xs i d).passed ≤ length ys → AreFew ys few (take i xs) → more ≡ kept_with (get_or xs i d) few
     → AreFew ys more (take (i + 1) xs)
 few-next ys xs few more i d lt h f e = record {
-  same = ap (λ (l : List Held). map (state_of ys) l) e
+  same = ap (λ (l : List StreamState). map (state_of ys) l) e
       ∙ with-same ys (get_or xs i d) few h f.within
       ∙ ap (λ (l : List State). one_more (state_of ys (get_or xs i d)) l) f.same
       ∙ sym (thinned-more [] (map (state_of ys) (take i xs)) (state_of ys (get_or xs i d)))
       ∙ ap (λ (l : List State). thinned_onto [] l)
-      (sym (map-append (state_of ys) (take i xs) (get_or xs i d ∷ [])) ∙ ap (λ (l : List Held). map (state_of ys) l)
+      (sym (map-append (state_of ys) (take i xs) (get_or xs i d ∷ [])) ∙
+      ap (λ (l : List StreamState). map (state_of ys) l)
       (sym (take_more xs i d lt)));
-  within = subst (λ (l : List Held). AllByRecursion (λ h. h.passed ≤ length ys) l) (sym e)
+  within = subst (λ (l : List StreamState). AllByRecursion (λ h. h.passed ≤ length ys) l) (sym e)
       (within-with ys (get_or xs i d) few h f.within);
 }

@@ -21,8 +21,8 @@ use Rattle.afdx_conform.specs.declared.arrived.Arrived.{Arrived}
 use Rattle.afdx_conform.specs.declared.finding.Mark.{Mark}
 use Rattle.afdx_conform.specs.declared.growth.Growth.{Growth}
 use Rattle.afdx_conform.specs.declared.levels.Rates.{Rates}
-use Rattle.afdx_conform.specs.declared.limits.Frame.{Frame}
-use Rattle.afdx_conform.specs.declared.states.Held.{Held}
+use Rattle.afdx_conform.specs.declared.limits.LeftFrame.{LeftFrame}
+use Rattle.afdx_conform.specs.declared.states.StreamState.{StreamState}
 use Rattle.afdx_conform.proofs.AheadLemmas.{too-late}
 use Rattle.afdx_conform.proofs.EveryLemmas.{every-append, every-on, every-right, every-unmap}
 
@@ -37,14 +37,14 @@ map-split : {X Y : Type 0} (f : X → Y) (n : ℕ) (xs : List X) → map f xs �
 map-split f n xs = sym (ap (λ l. map f l) (take-append-drop n xs)) ∙ map-append f (take n xs) (drop n xs)
 
 -- a state of the frames behind the first of them
-state-behind : (count : ℕ) (ys : List Gone) (h : Held) → count ≤ h.passed
+state-behind : (count : ℕ) (ys : List Gone) (h : StreamState) → count ≤ h.passed
     → state_of (drop count ys) (past (h.passed - count) h) ≡ state_of ys h
 state-behind count ys h le =
     let same : count + (h.passed - count) ≡ h.passed = omega (arith, le) in
     ap (λ (l : List Gone). state_with l h.levels h.waiting)
     (drop-drop (h.passed - count) count ys ∙ ap (λ (n : ℕ). drop n ys) same)
 
-states-behind : (count : ℕ) (ys : List Gone) (held : List Held) → AllByRecursion (λ h. count ≤ h.passed) held
+states-behind : (count : ℕ) (ys : List Gone) (held : List StreamState) → AllByRecursion (λ h. count ≤ h.passed) held
     → map (state_of (drop count ys)) (map (λ h. past (h.passed - count) h) held) ≡ map (state_of ys) held
 states-behind count ys [] le = refl
 states-behind count ys (h ∷ held) le =
@@ -52,7 +52,7 @@ states-behind count ys (h ∷ held) le =
     (state-behind count ys h le.0)
     ∙ ap (λ (l : List State). state_of ys h ∷ l) (states-behind count ys held le.1)
 
-within-behind : (rates : Rates) (frames n count : ℕ) (held : List Held)
+within-behind : (rates : Rates) (frames n count : ℕ) (held : List StreamState)
     → AllByRecursion (λ h. IsWithin rates frames n h) held
     → AllByRecursion (λ h. IsWithin rates (frames - count) n h) (map (λ h. past (h.passed - count) h) held)
 within-behind rates frames n count [] w = tt
@@ -66,20 +66,22 @@ within-behind rates frames n count (h ∷ held) w = (
   within-behind rates frames n count held w.1,
 )
 
-pub within-frames : (rates : Rates) (fs fs' : List Frame) (n count : ℕ) (held held' : List Held) → fs' ≡ drop count fs
+pub within-frames : (rates : Rates) (fs fs' : List LeftFrame) (n count : ℕ) (held held' : List StreamState) → fs' ≡
+    drop count fs
     → held' ≡ map (λ h. past (h.passed - count) h) held → All (λ h. IsWithin rates (length fs) n h) held
     → All (λ h. IsWithin rates (length fs') n h) held'
 within-frames rates fs fs' n count held held' e k w =
-    let size : length fs - count ≡ length fs' = sym (length-drop count fs) ∙ ap (λ (l : List Frame). length l) (sym e)
+    let size : length fs - count ≡ length fs' = sym (length-drop count fs) ∙
+    ap (λ (l : List LeftFrame). length l) (sym e)
     in
-    subst (λ (l : List Held). All (λ h. IsWithin rates (length fs') n h) l) (sym k)
+    subst (λ (l : List StreamState). All (λ h. IsWithin rates (length fs') n h) l) (sym k)
     (subst (λ (m : ℕ). All (λ h. IsWithin rates m n h) (map (λ h. past (h.passed - count) h) held)) size
     (All-from_recursion (λ h. IsWithin rates (length fs - count) n h) (map (λ h. past (h.passed - count) h) held)
     (within-behind rates (length fs) n count held
     (recursion_from_All (λ h. IsWithin rates (length fs) n h) held w))))
 
 -- the first frames are let go of
-abbrev pub without_frames : Growth → ℕ → Vec Frame → Vec Held → Growth
+abbrev pub without_frames : Growth → ℕ → Vec LeftFrame → Vec StreamState → Growth
 without_frames old count frames' held' = record old {
   frames = frames';
   judging = record old.judging { held = held' };
@@ -87,7 +89,7 @@ without_frames old count frames' held' = record old {
 }
 
 module _ (z : Terms) (xs : List Arrival) (ys : List Gone) (cut : ℕ) (over : List Event) (old : Growth) (count : ℕ)
-    (frames' : Vec Frame) (held' : Vec Held) where
+    (frames' : Vec LeftFrame) (held' : Vec StreamState) where
   abbrev New : Growth
   New = without_frames old count frames' held'
 
@@ -103,7 +105,8 @@ module _ (z : Terms) (xs : List Arrival) (ys : List Gone) (cut : ℕ) (over : Li
           ∙ ap (λ (l : List Gone). before ++ l) (map-split gone_of count old.frames.items)
           ∙ sym (append_assoc before (map gone_of (take count old.frames.items))
           (map gone_of (drop count old.frames.items)))
-          ∙ ap (λ (l : List Frame). (before ++ map gone_of (take count old.frames.items)) ++ map gone_of l) (sym items);
+          ∙ ap (λ (l : List LeftFrame). (before ++ map gone_of (take count old.frames.items)) ++ map gone_of l)
+          (sym items);
       judged = k.judged;
       marks = k.marks;
       closed =
@@ -112,7 +115,7 @@ module _ (z : Terms) (xs : List Arrival) (ys : List Gone) (cut : ℕ) (over : Li
           let taken = length-take-le count old.frames.items enough in
           let c = k.closed in
           omega (arith, size, mapped, taken, c, closed));
-      unread = subst (λ (l : List Frame). FitNone z (map gone_of l) gone) (sym items)
+      unread = subst (λ (l : List LeftFrame). FitNone z (map gone_of l) gone) (sym items)
           (every-right (λ y. AllByRecursion (λ m. fits z m.arrival y ≡ false) gone)
           (map gone_of (take count old.frames.items))
           (map gone_of (drop count old.frames.items))
@@ -131,9 +134,9 @@ module _ (z : Terms) (xs : List Arrival) (ys : List Gone) (cut : ℕ) (over : Li
       j = c.j;
       same = c.same;
       stands = record {
-        states = ap (λ (l : List Frame). map (state_of (map gone_of l)) held'.items) items
+        states = ap (λ (l : List LeftFrame). map (state_of (map gone_of l)) held'.items) items
             ∙ ap (λ (l : List Gone). map (state_of l) held'.items) (map-drop gone_of count old.frames.items)
-            ∙ ap (λ (l : List Held). map (state_of (drop count (map gone_of old.frames.items))) l) states
+            ∙ ap (λ (l : List StreamState). map (state_of (drop count (map gone_of old.frames.items))) l) states
             ∙ states-behind count (map gone_of old.frames.items) old.judging.held.items
             (recursion_from_All (λ h. count ≤ h.passed) old.judging.held.items passed)
             ∙ c.stands.states;
@@ -164,24 +167,24 @@ module _ (z : Terms) (xs : List Arrival) (ys : List Gone) (cut : ℕ) (over : Li
       sure = λ s. held-frames (f.sure s);
     }
 
-pub due-frames : (old : Growth) (count : ℕ) (frames' : Vec Frame) (held' : Vec Held)
+pub due-frames : (old : Growth) (count : ℕ) (frames' : Vec LeftFrame) (held' : Vec StreamState)
     → frames'.items ≡ drop count old.frames.items
     → count ≤ old.closed → due_by (without_frames old count frames' held') ≡ due_by old
 unfolding due_by
 due-frames old count frames' held' items closed =
     let same : count + (old.closed - count) ≡ old.closed = omega (arith, closed) in
-    ap (λ (l : List Frame). if old.judging.is_unsure then None
+    ap (λ (l : List LeftFrame). if old.judging.is_unsure then None
     else due_in old.bounds.limits (drop (length old.judging.marks.items) old.arrivals.items) l)
-    (ap (λ (l : List Frame). drop (old.closed - count) l) items
+    (ap (λ (l : List LeftFrame). drop (old.closed - count) l) items
     ∙ drop-drop (old.closed - count) count old.frames.items ∙ ap (λ (n : ℕ). drop n old.frames.items) same)
 
-pub sound-frames : (old : Growth) (count : ℕ) (frames' : Vec Frame) (held' : Vec Held)
+pub sound-frames : (old : Growth) (count : ℕ) (frames' : Vec LeftFrame) (held' : Vec StreamState)
     → frames'.items ≡ drop count old.frames.items
     → held'.items ≡ map (λ h. past (h.passed - count) h) old.judging.held.items → count ≤ old.closed → IsSound old
     → IsSound (without_frames old count frames' held')
 sound-frames old count frames' held' items states closed s =
     let size : length frames'.items ≡ length old.frames.items - count =
-    ap (λ (l : List Frame). length l) items ∙ length-drop count old.frames.items in
+    ap (λ (l : List LeftFrame). length l) items ∙ length-drop count old.frames.items in
     let c = s.closed in
     let f = s.frames in
     record {
@@ -238,7 +241,7 @@ every-marked P (suc n) (a ∷ come) [] h = tt
 every-marked P (suc n) (a ∷ come) (m ∷ ms) h = (h.0, every-marked P n come ms h.1)
 
 -- none of them waits
-within-none : (rates : Rates) (frames n m : ℕ) (held : List Held) → AllByRecursion (λ h. h.waiting ≡ 0) held
+within-none : (rates : Rates) (frames n m : ℕ) (held : List StreamState) → AllByRecursion (λ h. h.waiting ≡ 0) held
     → AllByRecursion (λ h. IsWithin rates frames n h) held → AllByRecursion (λ h. IsWithin rates frames m h) held
 within-none rates frames n m [] none w = tt
 within-none rates frames n m (h ∷ held) none w = (
@@ -398,7 +401,7 @@ no-later (a ∷ b ∷ come) (suc n) d h lt =
 
 module _ (z : Terms) (xs : List Arrival) (ys : List Gone) (cut : ℕ) (over : List Event) (old : Growth) (n : ℕ)
     (a : Arrived)
-    (f : Frame) (rest : List Frame) (bounds : AreBounds z old.bounds) (told : AreTold z xs ys)
+    (f : LeftFrame) (rest : List LeftFrame) (bounds : AreBounds z old.bounds) (told : AreTold z xs ys)
     (lt : n < length old.arrivals.items)
     (at : a ≡ get_or old.arrivals.items n a) (frames : old.frames.items ≡ f ∷ rest)
     (late : a.time + old.bounds.limits.latency + old.bounds.limits.reach < f.time)
@@ -416,7 +419,7 @@ module _ (z : Terms) (xs : List Arrival) (ys : List Gone) (cut : ℕ) (over : Li
   left-up = up-right (map (λ y. y.time) held.past) (map (λ y. y.time) (map gone_of (f ∷ rest)))
       (subst (λ (l : List ℕ). GoUp l)
       (ap (λ (l : List Gone). map (λ y. y.time) l)
-      (held.kept.left ∙ ap (λ (l : List Frame). held.past ++ map gone_of l) frames)
+      (held.kept.left ∙ ap (λ (l : List LeftFrame). held.past ++ map gone_of l) frames)
       ∙ map-append (λ (y : Gone). y.time) held.past (map gone_of (f ∷ rest))) told.left)
 
   frames-late : AllByRecursion (λ y. f.time ≤ y.time) (map gone_of (f ∷ rest))
@@ -428,7 +431,7 @@ module _ (z : Terms) (xs : List Arrival) (ys : List Gone) (cut : ℕ) (over : Li
   too-early =
       let lat = bounds.limits.latency in
       let slip = bounds.limits.reach in
-      subst (λ (l : List Frame). FitNone z (map gone_of l)
+      subst (λ (l : List LeftFrame). FitNone z (map gone_of l)
       (marked_all (take (suc n) old.arrivals.items) (take (suc n) old.judging.marks.items))) (sym frames)
       (every-on (λ y. f.time ≤ y.time)
       (λ y. AllByRecursion (λ m. fits z m.arrival y ≡ false)
@@ -443,7 +446,8 @@ module _ (z : Terms) (xs : List Arrival) (ys : List Gone) (cut : ℕ) (over : Li
 -- the first of them are, up to the last one that is looked at
 pub early-arrivals : (z : Terms) (xs : List Arrival) (ys : List Gone) (cut : ℕ) (over : List Event) (old : Growth)
     (count : ℕ)
-    (a : Arrived) (f : Frame) → AreBounds z old.bounds → AreTold z xs ys → 0 < count → count ≤ length old.arrivals.items
+    (a : Arrived) (f : LeftFrame) → AreBounds z old.bounds → AreTold z xs ys → 0 < count →
+    count ≤ length old.arrivals.items
     → a ≡ get_or old.arrivals.items (count - 1) a → f ≡ get_or old.frames.items 0 f
     → a.time + old.bounds.limits.latency + old.bounds.limits.reach < f.time → IsHeld z xs ys cut over old
     → FitNone z (map gone_of old.frames.items)
@@ -454,22 +458,22 @@ early-arrivals z xs ys cut over old count a f bounds told some le at first late 
     same : suc (count - 1) ≡ count
     same = omega (arith, some)
 
-    by : (fs : List Frame) → old.frames.items ≡ fs → f ≡ get_or fs 0 f → FitNone z (map gone_of old.frames.items)
+    by : (fs : List LeftFrame) → old.frames.items ≡ fs → f ≡ get_or fs 0 f → FitNone z (map gone_of old.frames.items)
         (marked_all (take count old.arrivals.items) (take count old.judging.marks.items))
-    by [] is e = subst (λ (l : List Frame). FitNone z (map gone_of l)
+    by [] is e = subst (λ (l : List LeftFrame). FitNone z (map gone_of l)
         (marked_all (take count old.arrivals.items) (take count old.judging.marks.items))) (sym is) tt
     by (g ∷ rest) is e =
         subst (λ (n : ℕ). FitNone z (map gone_of old.frames.items)
         (marked_all (take n old.arrivals.items) (take n old.judging.marks.items))) same
         (too-early z xs ys cut over old (count - 1) a f rest bounds told (omega (arith, some, le)) at
-        (is ∙ ap (λ (h : Frame). h ∷ rest) (sym e)) late held)
+        (is ∙ ap (λ (h : LeftFrame). h ∷ rest) (sym e)) late held)
 
 pub none-early : (z : Terms) (old : Growth) (count : ℕ) → length old.frames.items ≡ 0
     → FitNone z (map gone_of old.frames.items)
     (marked_all (take count old.arrivals.items) (take count old.judging.marks.items))
 none-early z old count e = by old.frames.items e
   where
-    by : (fs : List Frame) → length fs ≡ 0 → FitNone z (map gone_of fs)
+    by : (fs : List LeftFrame) → length fs ≡ 0 → FitNone z (map gone_of fs)
         (marked_all (take count old.arrivals.items) (take count old.judging.marks.items))
     by [] h = tt
     by (g ∷ rest) h = absurd (omega (arith, h))

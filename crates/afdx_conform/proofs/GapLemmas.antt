@@ -15,7 +15,7 @@ use Rattle.afdx_conform.specs.declared.gaps.Gaps.{Gaps}
 use Rattle.afdx_conform.specs.declared.gaps.Wanted.{Wanted}
 use Rattle.afdx_conform.specs.declared.gaps.Wanted.TheVariants.{ToName, Accepted}
 use Rattle.afdx_conform.specs.declared.known_bytes.KnownBytes.{KnownBytes}
-use Rattle.afdx_conform.specs.declared.limits.Frame.{Frame}
+use Rattle.afdx_conform.specs.declared.limits.LeftFrame.{LeftFrame}
 use Rattle.afdx_conform.specs.declared.limits.Limits.{Limits}
 use Rattle.afdx_conform.proofs.InTimeLemmas.{fits-no-other}
 use Rattle.afdx_conform.proofs.PlacesLemmas.{IsReached, none-left}
@@ -120,14 +120,14 @@ gap-on w test gap from start to xs ms known before more = record {
 
 -- ---- what a frame may be of
 
-has-fit : (l : Limits) (f : Frame) (a : Arrived) → may_fit l f a ≡ true → has_bytes f.bytes a ≡ true
+has-fit : (l : Limits) (f : LeftFrame) (a : Arrived) → may_fit l f a ≡ true → has_bytes f.bytes a ≡ true
 has-fit l f a ok = by (has_bytes f.bytes a) refl
   where
     by : (b : Bool) → has_bytes f.bytes a ≡ b → b ≡ true
     by true e = refl
     by false e = not-both (may_fit l f a) ok (fits-no-other l f a e)
 
-pub none-wanted : (w : Wanted) (l : Limits) (f : Frame) (early : ℕ) (gap : Gap) (xs : List Arrived) (ms : List Mark)
+pub none-wanted : (w : Wanted) (l : Limits) (f : LeftFrame) (early : ℕ) (gap : Gap) (xs : List Arrived) (ms : List Mark)
     → gap.from ≡ early → ((i : ℕ) (d : Arrived) → i < early → may_fit l f (get_or xs i d) ≡ false)
     → IsGap w (has_bytes f.bytes) gap xs ms → NoneIsWanted w l f gap.to xs ms
 none-wanted w l f early gap xs ms is none g = record {
@@ -140,7 +140,7 @@ none-wanted w l f early gap xs ms is none g = record {
     by p a m lt ok (inl less) = not-both (may_fit l f (get_or xs p a)) ok (none p a less)
     by p a m lt ok (inr le) = g.none p a m (omega (arith, is, le)) lt (has-fit l f (get_or xs p a) ok)
 
-pub none-yet : (w : Wanted) (l : Limits) (f : Frame) (n : ℕ) (xs : List Arrived) (ms : List Mark) → n ≡ 0
+pub none-yet : (w : Wanted) (l : Limits) (f : LeftFrame) (n : ℕ) (xs : List Arrived) (ms : List Mark) → n ≡ 0
     → NoneIsWanted w l f n xs ms
 none-yet w l f n xs ms e = record {
   within = omega (arith, e);

@@ -16,7 +16,7 @@ use Rattle.afdx_conform.specs.Streams.{Gone, Terms}
 use Rattle.afdx_conform.specs.declared.arrived.Arrived.{Arrived}
 use Rattle.afdx_conform.specs.declared.growth.Growth.{Growth}
 use Rattle.afdx_conform.specs.declared.judging.Judging.{Judging}
-use Rattle.afdx_conform.specs.declared.limits.Frame.{Frame}
+use Rattle.afdx_conform.specs.declared.limits.LeftFrame.{LeftFrame}
 use Rattle.afdx_conform.proofs.ForgettingLemmas.{forgetting_nothing}
 use Rattle.afdx_conform.proofs.GrowthDecides.{front-none, of-both}
 
@@ -27,25 +27,25 @@ unfolding GoUp
 times-right [] ys h = h
 times-right (y ∷ past) ys h = times-right past ys h.1
 
-at-or-behind : (fs : List Frame) (time k : ℕ) (g : Frame)
+at-or-behind : (fs : List LeftFrame) (time k : ℕ) (g : LeftFrame)
     → AllByRecursion (λ t. time ≤ t) (frame_times (map gone_of fs))
     → k < length fs → g ≡ get_or fs k g → time ≤ g.time
 at-or-behind [] time k g all lt at = absurd (omega (arith, lt))
-at-or-behind (f ∷ fs) time zero g all lt at = subst (λ (v : Frame). time ≤ v.time) (sym at) all.0
+at-or-behind (f ∷ fs) time zero g all lt at = subst (λ (v : LeftFrame). time ≤ v.time) (sym at) all.0
 at-or-behind (f ∷ fs) time (suc k) g all lt at = at-or-behind fs time k g all.1 (omega (arith, lt)) at
 
-pub are-frames : (fs : List Frame) → GoUp (frame_times (map gone_of fs)) → AreFrames fs
+pub are-frames : (fs : List LeftFrame) → GoUp (frame_times (map gone_of fs)) → AreFrames fs
 unfolding GoUp
 are-frames [] up i k f g le lt p q = absurd (omega (arith, lt))
 are-frames (h ∷ fs) up zero zero f g le lt p q =
-    let a = ap (λ (v : Frame). v.time) p in let b = ap (λ (v : Frame). v.time) q in omega (arith, a, b)
+    let a = ap (λ (v : LeftFrame). v.time) p in let b = ap (λ (v : LeftFrame). v.time) q in omega (arith, a, b)
 are-frames (h ∷ fs) up zero (suc k) f g le lt p q =
-    subst (λ (v : Frame). v.time ≤ g.time) (sym p) (at-or-behind fs h.time k g up.0 (omega (arith, lt)) q)
+    subst (λ (v : LeftFrame). v.time ≤ g.time) (sym p) (at-or-behind fs h.time k g up.0 (omega (arith, lt)) q)
 are-frames (h ∷ fs) up (suc i) zero f g le lt p q = absurd (omega (arith, le))
 are-frames (h ∷ fs) up (suc i) (suc k) f g le lt p q = are-frames fs up.1 i k f g (omega (arith, le))
     (omega (arith, lt)) p q
 
-pub frames-held : (past ys : List Gone) (fs : List Frame) → GoUp (frame_times ys) → ys ≡ past ++ map gone_of fs
+pub frames-held : (past ys : List Gone) (fs : List LeftFrame) → GoUp (frame_times ys) → ys ≡ past ++ map gone_of fs
     → AreFrames fs
 frames-held past ys fs up e =
     are-frames fs (times-right past (map gone_of fs) (subst (λ (l : List Gone). GoUp (frame_times l)) e up))
@@ -72,17 +72,18 @@ module _ (z : Terms) where
       by [] = skipped-unsure time (lead j.states) (front_rest j.states) j
       by (s ∷ more) = refl
 
-  pub closed-of : (f : Frame) (old : Growth) (judging' : Judging) (j : Judged) (xs' : List Arrived) (fs : List Frame)
+  pub closed-of : (f : LeftFrame) (old : Growth) (judging' : Judging) (j : Judged) (xs' : List Arrived)
+      (fs : List LeftFrame)
       → xs' ≡ old.arrivals.items → fs ≡ old.frames.items → StandsFor old.bounds.rates fs xs' (closed_to z f.time j)
       judging'
       → StandsFor old.bounds.rates old.frames.items old.arrivals.items (closed_to z f.time j) judging'
   closed-of f old judging' j xs' fs e g s =
       subst (λ (l : List Arrived). StandsFor old.bounds.rates old.frames.items l (closed_to z f.time j) judging') e
-      (subst (λ (l : List Frame). StandsFor old.bounds.rates l xs' (closed_to z f.time j) judging') g s)
+      (subst (λ (l : List LeftFrame). StandsFor old.bounds.rates l xs' (closed_to z f.time j) judging') g s)
 
   -- ---- the closing of a frame
 
-  module _ (xs : List Arrival) (ys : List Gone) (cut : ℕ) (over : List Event) (f : Frame) (old : Growth)
+  module _ (xs : List Arrival) (ys : List Gone) (cut : ℕ) (over : List Event) (f : LeftFrame) (old : Growth)
       (judging' : Judging)
       (found : List Finding) (to : ℕ) where
     abbrev pub Close : Growth

@@ -21,8 +21,8 @@ use Rattle.afdx_conform.specs.Streams.{Gone, Terms, fits}
 use Rattle.afdx_conform.specs.declared.arrived.Arrived.{Arrived}
 use Rattle.afdx_conform.specs.declared.growth.Growth.{Growth}
 use Rattle.afdx_conform.specs.declared.judging.Judging.{Judging}
-use Rattle.afdx_conform.specs.declared.limits.Frame.{Frame}
-use Rattle.afdx_conform.specs.declared.states.Held.{Held}
+use Rattle.afdx_conform.specs.declared.limits.LeftFrame.{LeftFrame}
+use Rattle.afdx_conform.specs.declared.states.StreamState.{StreamState}
 use Rattle.afdx_conform.proofs.ForgettingLemmas.{forgetting_nothing}
 use Rattle.afdx_conform.proofs.HistoryLemmas.{drop-next, every-drop}
 
@@ -38,7 +38,7 @@ of-both P true u v p q = p
 of-both P false u v p q = q
 
 -- no frame that is left after the states fits
-pub front-none : (z : Terms) (ys : List Gone) (gone : List Marked) (held : List Held) → FitNone z ys gone
+pub front-none : (z : Terms) (ys : List Gone) (gone : List Marked) (held : List StreamState) → FitNone z ys gone
     → FitNone z (front_rest (map (state_of ys) held)) gone
 unfolding front_rest
 front-none z ys gone [] all = tt
@@ -79,7 +79,7 @@ module _ (z : Terms) where
 
   pub outcome-of : (over : List Event) (a : Arrived) (old : Growth) (judging' : Judging) (found : List Finding)
       (j : Judged)
-      (xs' : List Arrived) (fs : List Frame) → xs' ≡ old.arrivals.items → fs ≡ old.frames.items
+      (xs' : List Arrived) (fs : List LeftFrame) → xs' ≡ old.arrivals.items → fs ≡ old.frames.items
       → StandsFor old.bounds.rates fs xs' (came_to z (map arrival_of (drop (length old.judging.marks.items + 1) xs'))
       (last_time z.by (arrivals_came (sound_events z over))) (arrival_of a) j) judging'
       × AreFound a.time found j (came_to z (map arrival_of (drop (length old.judging.marks.items + 1) xs'))
@@ -96,7 +96,7 @@ module _ (z : Terms) where
       (last_time z.by (arrivals_came (sound_events z over))) (arrival_of a) j) judging'
       × AreFound a.time found j (came_to z (map arrival_of (drop (length old.judging.marks.items + 1) l))
       (last_time z.by (arrivals_came (sound_events z over))) (arrival_of a) j)) e
-      (subst (λ (l : List Frame). StandsFor old.bounds.rates l xs' (came_to z (map arrival_of
+      (subst (λ (l : List LeftFrame). StandsFor old.bounds.rates l xs' (came_to z (map arrival_of
       (drop (length old.judging.marks.items + 1) xs'))
       (last_time z.by (arrivals_came (sound_events z over))) (arrival_of a) j) judging'
       × AreFound a.time found j (came_to z (map arrival_of (drop (length old.judging.marks.items + 1) xs'))

@@ -22,8 +22,8 @@ use Rattle.afdx_conform.specs.States.{Event, State, state_with}
 use Rattle.afdx_conform.specs.Streams.{Gone, Terms, fits}
 use Rattle.afdx_conform.specs.declared.growth.Growth.{Growth}
 use Rattle.afdx_conform.specs.declared.levels.Rates.{Rates}
-use Rattle.afdx_conform.specs.declared.limits.Frame.{Frame}
-use Rattle.afdx_conform.specs.declared.states.Held.{Held}
+use Rattle.afdx_conform.specs.declared.limits.LeftFrame.{LeftFrame}
+use Rattle.afdx_conform.specs.declared.states.StreamState.{StreamState}
 use Rattle.afdx_conform.proofs.EveryLemmas.{every-append, every-on}
 use Rattle.afdx_conform.proofs.GrowthLemmas.{gone-over, times-up, true-false}
 use Rattle.afdx_conform.proofs.HistoryLemmas.{events-left}
@@ -32,7 +32,7 @@ use Rattle.afdx_conform.proofs.OverLemmas.{AreLate, are-far, fits-not, not-begun
 
 -- ---- states, with more frames behind those that are left
 
-pub states-more : (ys more : List Gone) (held : List Held) (n : ℕ) → All (λ h. h.passed ≤ n) held → n ≤ length ys
+pub states-more : (ys more : List Gone) (held : List StreamState) (n : ℕ) → All (λ h. h.passed ≤ n) held → n ≤ length ys
     → map (state_of (ys ++ more)) held ≡ map (with_more more) (map (state_of ys) held)
 states-more ys more [] n all le = refl
 states-more ys more (h ∷ held) n all le =
@@ -41,7 +41,8 @@ states-more ys more (h ∷ held) n all le =
     ∙ ap (λ (l : List State). with_more more (state_of ys h) ∷ l)
     (states-more ys more held n (λ i d lt. all (suc i) d (omega (arith, lt))) le)
 
-within-more : (rates : Rates) (n k count : ℕ) (held : List Held) → n ≤ k → All (λ h. IsWithin rates n count h) held
+within-more : (rates : Rates) (n k count : ℕ) (held : List StreamState) → n ≤ k →
+    All (λ h. IsWithin rates n count h) held
     → All (λ h. IsWithin rates k count h) held
 within-more rates n k count held le all i d lt =
     let h = all i d lt in
@@ -69,8 +70,8 @@ module _ (z : Terms) where
 
   -- ---- one more frame
 
-  module _ (xs : List Arrival) (ys : List Gone) (cut time : ℕ) (over : List Event) (f : Frame) (old : Growth)
-      (frames' : Vec Frame) (count : ℕ) where
+  module _ (xs : List Arrival) (ys : List Gone) (cut time : ℕ) (over : List Event) (f : LeftFrame) (old : Growth)
+      (frames' : Vec LeftFrame) (count : ℕ) where
     abbrev One : List Gone
     One = gone_of f ∷ []
 
@@ -95,7 +96,7 @@ module _ (z : Terms) where
       same-shown = shown-late xs ys One time over t events until (late m) o
 
       frames-of : map gone_of frames'.items ≡ map gone_of old.frames.items ++ One
-      frames-of = ap (λ (l : List Frame). map gone_of l) items ∙ map-append gone_of old.frames.items (f ∷ [])
+      frames-of = ap (λ (l : List LeftFrame). map gone_of l) items ∙ map-append gone_of old.frames.items (f ∷ [])
 
       unread-more : (gone : List Marked) (past : List Gone) → IsKept z xs ys cut over gone past old
           → FitNone z (map gone_of frames'.items) gone
@@ -154,7 +155,7 @@ module _ (z : Terms) where
               ∙ ap (λ (l : List State). map (with_more One) l) c.stands.states;
           within = within-more old.bounds.rates (length old.frames.items) (length frames'.items)
               (length old.judging.marks.items) old.judging.held.items
-              (let n = ap (λ (l : List Frame). length l) items ∙ length-append old.frames.items (f ∷ []) in
+              (let n = ap (λ (l : List LeftFrame). length l) items ∙ length-append old.frames.items (f ∷ []) in
               omega (arith, n))
               c.stands.within;
           marks = c.stands.marks;

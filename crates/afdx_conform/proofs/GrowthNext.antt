@@ -16,7 +16,7 @@ use Rattle.afdx_conform.specs.States.{Event, Came, Closing, arrivals_came}
 use Rattle.afdx_conform.specs.Streams.{Gone, Terms}
 use Rattle.afdx_conform.specs.declared.arrived.Arrived.{Arrived}
 use Rattle.afdx_conform.specs.declared.growth.Growth.{Growth}
-use Rattle.afdx_conform.specs.declared.limits.Frame.{Frame}
+use Rattle.afdx_conform.specs.declared.limits.LeftFrame.{LeftFrame}
 use Rattle.afdx_conform.specs.declared.limits.Limits.{Limits}
 use Rattle.afdx_conform.specs.declared.upcoming.Upcoming.{Upcoming}
 use Rattle.afdx_conform.proofs.GrowthDecides.{drop-map}
@@ -63,7 +63,7 @@ module _ (z : Terms) where
 
   -- ---- the moment
 
-  pub due-next : (limits : Limits) (cs : List Arrived) (fs : List Frame) → AreLimits z limits
+  pub due-next : (limits : Limits) (cs : List Arrived) (fs : List LeftFrame) → AreLimits z limits
       → due_in limits cs fs ≡ option_map (λ e. moment_at z (event_time z e))
       (next_of z (map arrival_of cs) (map gone_of fs))
   due-next limits [] [] b = refl
@@ -85,9 +85,9 @@ module _ (z : Terms) where
 
   -- ---- which it is
 
-  first-arrives : (cs : List Arrived) (fs : List Frame) (a : Arrived) (apart : ℕ) → apart ≡ reach z.by
+  first-arrives : (cs : List Arrived) (fs : List LeftFrame) (a : Arrived) (apart : ℕ) → apart ≡ reach z.by
       → 0 < length cs → a ≡ get_or cs 0 a
-      → ((f : Frame) → 0 < length fs → f ≡ get_or fs 0 f → a.time ≤ f.time + apart)
+      → ((f : LeftFrame) → 0 < length fs → f ≡ get_or fs 0 f → a.time ≤ f.time + apart)
       → next_of z (map arrival_of cs) (map gone_of fs) ≡ Some (Came (arrival_of a))
   first-arrives [] fs a apart e lt at first = absurd (omega (arith, lt))
   first-arrives (c ∷ cs) [] a apart e lt at first = ap (λ (v : Arrived). Some (Came (arrival_of v))) (sym at)
@@ -98,20 +98,20 @@ module _ (z : Terms) where
       (le-ltb (f.time + reach z.by) c.time (omega (arith, le, same, e)))
       ∙ ap (λ (v : Arrived). Some (Came (arrival_of v))) (sym at)
 
-  first-closes : (cs : List Arrived) (fs : List Frame) (f : Frame) (apart : ℕ) → apart ≡ reach z.by
+  first-closes : (cs : List Arrived) (fs : List LeftFrame) (f : LeftFrame) (apart : ℕ) → apart ≡ reach z.by
       → 0 < length fs → f ≡ get_or fs 0 f
       → ((a : Arrived) → 0 < length cs → a ≡ get_or cs 0 a → f.time + apart < a.time)
       → next_of z (map arrival_of cs) (map gone_of fs) ≡ Some (Closing f.time)
   first-closes cs [] f apart e lt at first = absurd (omega (arith, lt))
-  first-closes [] (g ∷ fs) f apart e lt at first = ap (λ (v : Frame). Some (Closing v.time)) (sym at)
+  first-closes [] (g ∷ fs) f apart e lt at first = ap (λ (v : LeftFrame). Some (Closing v.time)) (sym at)
   first-closes (c ∷ cs) (g ∷ fs) f apart e lt at first =
       let less = first c (omega arith) refl in
-      let same = ap (λ (v : Frame). v.time) at in
+      let same = ap (λ (v : LeftFrame). v.time) at in
       ap (λ (b : Bool). if b then Some (Closing g.time) else Some (Came (arrival_of c)))
       (lt-ltb (g.time + reach z.by) c.time (omega (arith, less, same, e)))
-      ∙ ap (λ (v : Frame). Some (Closing v.time)) (sym at)
+      ∙ ap (λ (v : LeftFrame). Some (Closing v.time)) (sym at)
 
-  pub next-none : (cs : List Arrived) (fs : List Frame) → length cs ≤ 0 → length fs ≤ 0
+  pub next-none : (cs : List Arrived) (fs : List LeftFrame) → length cs ≤ 0 → length fs ≤ 0
       → next_of z (map arrival_of cs) (map gone_of fs) ≡ None
   next-none [] [] c f = refl
   next-none (c ∷ cs) fs le f = absurd (omega (arith, le))
@@ -122,10 +122,10 @@ module _ (z : Terms) where
   get-drop : {X : Type 0} (n : ℕ) (xs : List X) (d : X) → get_or (drop n xs) 0 d ≡ get_or xs n d
   get-drop n xs d = get_or-drop n xs 0 d ∙ ap (λ (k : ℕ). get_or xs k d) (omega arith)
 
-  pub arrives-at : (place closed : ℕ) (cs : List Arrived) (fs : List Frame) (a : Arrived) (apart : ℕ)
+  pub arrives-at : (place closed : ℕ) (cs : List Arrived) (fs : List LeftFrame) (a : Arrived) (apart : ℕ)
       → apart ≡ reach z.by
       → place < length cs → a ≡ get_or cs place a
-      → ((f : Frame) → closed < length fs → f ≡ get_or fs closed f → a.time ≤ f.time + apart)
+      → ((f : LeftFrame) → closed < length fs → f ≡ get_or fs closed f → a.time ≤ f.time + apart)
       → next_of z (map arrival_of (drop place cs)) (map gone_of (drop closed fs)) ≡ Some (Came (arrival_of a))
   arrives-at place closed cs fs a apart e lt at first =
       let size = length-drop place cs in
@@ -134,7 +134,8 @@ module _ (z : Terms) where
       ∙ sym (get-drop place cs a))
       (λ f less is. first f (omega (arith, less, many)) (is ∙ get-drop closed fs f))
 
-  pub closes-at : (place closed : ℕ) (cs : List Arrived) (fs : List Frame) (f : Frame) (apart : ℕ) → apart ≡ reach z.by
+  pub closes-at : (place closed : ℕ) (cs : List Arrived) (fs : List LeftFrame) (f : LeftFrame) (apart : ℕ) → apart ≡
+      reach z.by
       → closed < length fs → f ≡ get_or fs closed f
       → ((a : Arrived) → place < length cs → a ≡ get_or cs place a → f.time + apart < a.time)
       → next_of z (map arrival_of (drop place cs)) (map gone_of (drop closed fs)) ≡ Some (Closing f.time)
@@ -145,7 +146,7 @@ module _ (z : Terms) where
       ∙ sym (get-drop closed fs f))
       (λ a less is. first a (omega (arith, less, many)) (is ∙ get-drop place cs a))
 
-  pub none-at : (place closed : ℕ) (cs : List Arrived) (fs : List Frame) → length cs ≤ place → length fs ≤ closed
+  pub none-at : (place closed : ℕ) (cs : List Arrived) (fs : List LeftFrame) → length cs ≤ place → length fs ≤ closed
       → next_of z (map arrival_of (drop place cs)) (map gone_of (drop closed fs)) ≡ None
   none-at place closed cs fs le few =
       let size = length-drop place cs in
@@ -159,7 +160,7 @@ the-event p = cc
 pub no-event : {e : Event} → Some e ≡ None → ⊥
 no-event p = absurd (cc)
 
-pub some-frame : (fs : List Frame) (i : ℕ) → i < length fs → (f : Frame) × (f ≡ get_or fs i f)
+pub some-frame : (fs : List LeftFrame) (i : ℕ) → i < length fs → (f : LeftFrame) × (f ≡ get_or fs i f)
 some-frame [] i lt = absurd (omega (arith, lt))
 some-frame (f ∷ fs) zero lt = (f, refl)
 some-frame (f ∷ fs) (suc i) lt = some-frame fs i (omega (arith, lt))

@@ -13,8 +13,8 @@ use Rattle.afdx_conform.specs.Limits.{gone_of}
 use Rattle.afdx_conform.specs.States.{Event, Closing}
 use Rattle.afdx_conform.specs.Streams.{Gone, Terms}
 use Rattle.afdx_conform.specs.declared.growth.Growth.{Growth}
-use Rattle.afdx_conform.specs.declared.limits.Frame.{Frame}
-use Rattle.afdx_conform.specs.declared.states.Held.{Held}
+use Rattle.afdx_conform.specs.declared.limits.LeftFrame.{LeftFrame}
+use Rattle.afdx_conform.specs.declared.states.StreamState.{StreamState}
 use Rattle.std.specs.List.{AllByRecursion}
 use Rattle.afdx_conform.proofs.ClosingLemmas.{close-all}
 use Rattle.afdx_conform.proofs.GrowthCloses.{Close, after-close, closed-next}
@@ -24,7 +24,7 @@ abbrev pub Closed : Growth → ℕ → Growth
 Closed old to = record old { closed = old.closed + 1; closing = to }
 
 same-growth : (old : Growth) (to n : ℕ) (z : Terms) (xs : List Arrival) (ys : List Gone) (cut : ℕ) (over : List Event)
-    (f : Frame)
+    (f : LeftFrame)
     → old.is_started ≡ true → old.found ≡ min n most_found → Close z xs ys cut over f old old.judging [] to
     ≡ Closed old to
 unfolding frames_in
@@ -45,12 +45,12 @@ nothing-found time j k e = record {
   frames = (let same = ap (λ (v : Judged). v.frames) e in omega (arith, same));
 }
 
-module _ (z : Terms) (xs : List Arrival) (ys : List Gone) (cut : ℕ) (over : List Event) (f : Frame) (old : Growth)
+module _ (z : Terms) (xs : List Arrival) (ys : List Gone) (cut : ℕ) (over : List Event) (f : LeftFrame) (old : Growth)
     (to moment : ℕ)
     (g : IsAfter z xs ys cut over old) (sure : old.judging.is_unsure ≡ false) (started : old.is_started ≡ true)
     (next : next_of z (coming xs over) (unclosed ys over) ≡ Some (Closing f.time))
     (closed : AreClosed f.time to (map gone_of old.frames.items))
-    (all : AllByRecursion (λ (h : Held). to ≤ h.passed) old.judging.held.items)
+    (all : AllByRecursion (λ (h : StreamState). to ≤ h.passed) old.judging.held.items)
     (early : f.time + reach z.by ≤ moment) where
   pub after-quiet : IsAfter z xs ys cut (Closing f.time ∷ over) (Closed old to)
       × IsQuiet z xs ys over moment (Some f.time)

@@ -23,8 +23,8 @@ use Rattle.afdx_conform.specs.declared.finding.Mark.{Mark}
 use Rattle.afdx_conform.specs.declared.growth.Growth.{Growth}
 use Rattle.afdx_conform.specs.declared.leeway.Leeway as code
 use Rattle.afdx_conform.specs.declared.levels.Rates.{Rates}
-use Rattle.afdx_conform.specs.declared.limits.Frame.{Frame}
-use Rattle.afdx_conform.specs.declared.states.Held.{Held}
+use Rattle.afdx_conform.specs.declared.limits.LeftFrame.{LeftFrame}
+use Rattle.afdx_conform.specs.declared.states.StreamState.{StreamState}
 use Rattle.afdx_conform.proofs.GrowthLemmas.{true-false}
 
 -- ---- where nothing has changed
@@ -36,11 +36,11 @@ module _ (z : Terms) (xs : List Arrival) (ys : List Gone) (cut : ℕ) (over : Li
         → IsKept z xs ys cut over gone past new
     kept-same gone past k = record {
       came = k.came ∙ ap (λ (l : List Arrived). map (λ m. m.arrival) gone ++ map arrival_of l) (sym s.arrivals);
-      left = k.left ∙ ap (λ (l : List Frame). past ++ map gone_of l) (sym s.frames);
+      left = k.left ∙ ap (λ (l : List LeftFrame). past ++ map gone_of l) (sym s.frames);
       judged = subst (λ (l : List Arrived). All (λ a. IsJudged z a) l) (sym s.arrivals) k.judged;
       marks = k.marks ∙ ap (λ (l : List Mark). length gone + length l) (sym s.marks);
       closed = k.closed ∙ ap (λ (n : ℕ). length past + n) (sym s.closed);
-      unread = subst (λ (l : List Frame). FitNone z (map gone_of l) gone) (sym s.frames) k.unread;
+      unread = subst (λ (l : List LeftFrame). FitNone z (map gone_of l) gone) (sym s.frames) k.unread;
       last = s.last ∙ k.last;
       found = s.found ∙ k.found;
       arrivals = s.came ∙ k.arrivals;
@@ -58,18 +58,18 @@ module _ (z : Terms) (xs : List Arrival) (ys : List Gone) (cut : ℕ) (over : Li
           j = c.j;
           same = c.same;
           stands = record {
-            states = ap (λ (l : List Frame). map (state_of (map gone_of l)) new.judging.held.items) s.frames
-                ∙ ap (λ (l : List Held). map (state_of (map gone_of old.frames.items)) l) held ∙ c.stands.states;
+            states = ap (λ (l : List LeftFrame). map (state_of (map gone_of l)) new.judging.held.items) s.frames
+                ∙ ap (λ (l : List StreamState). map (state_of (map gone_of old.frames.items)) l) held ∙ c.stands.states;
             within =
                 subst (λ (r : Rates). All (λ h. IsWithin r (length new.frames.items) (length new.judging.marks.items) h)
                 new.judging.held.items) (ap (λ (b : Bounds). b.rates) (sym s.bounds))
                 (subst (λ (n : ℕ). All (λ h. IsWithin old.bounds.rates n (length new.judging.marks.items) h)
                 new.judging.held.items)
-                (ap (λ (l : List Frame). length l) (sym s.frames))
+                (ap (λ (l : List LeftFrame). length l) (sym s.frames))
                 (subst (λ (n : ℕ). All (λ h. IsWithin old.bounds.rates (length old.frames.items) n h)
                 new.judging.held.items)
                 (ap (λ (l : List Mark). length l) (sym s.marks))
-                (subst (λ (l : List Held). All (λ h. IsWithin old.bounds.rates (length old.frames.items)
+                (subst (λ (l : List StreamState). All (λ h. IsWithin old.bounds.rates (length old.frames.items)
                 (length old.judging.marks.items) h) l) (sym held) c.stands.within)));
             marks = ap (λ (l : List Arrived). marked_all l new.judging.marks.items) s.arrivals
                 ∙ ap (λ (l : List Mark). marked_all old.arrivals.items l) s.marks ∙ c.stands.marks;
@@ -128,12 +128,12 @@ after-none z g bounds by arrivals frames marks uncertain sure closed last starte
     past = [];
     kept = record {
       came = ap (λ (l : List Arrived). map arrival_of l) (sym arrivals);
-      left = ap (λ (l : List Frame). map gone_of l) (sym frames);
+      left = ap (λ (l : List LeftFrame). map gone_of l) (sym frames);
       judged = subst (λ (l : List Arrived). All (λ a. IsJudged z a) l) (sym arrivals)
           (λ i d lt. absurd (omega (arith, lt)));
       marks = (let n = ap (λ (l : List Mark). length l) marks in omega (arith, n));
       closed = omega (arith, closed);
-      unread = subst (λ (l : List Frame). FitNone z (map gone_of l) []) (sym frames) tt;
+      unread = subst (λ (l : List LeftFrame). FitNone z (map gone_of l) []) (sym frames) tt;
       last = last;
       found = found;
       arrivals = came;
@@ -154,7 +154,7 @@ ready-started z xs ys cut over g f sure started =
     let h = f.sure sure in
     record { after = f; gone = h.gone; past = h.past; kept = h.kept; continues = h.continues started }
 
-module _ (z : Terms) (xs : List Arrival) (ys : List Gone) (cut : ℕ) (g : Growth) (held : Vec Held) where
+module _ (z : Terms) (xs : List Arrival) (ys : List Gone) (cut : ℕ) (g : Growth) (held : Vec StreamState) where
   abbrev pub WithHeld : Growth
   WithHeld = record g { judging = record g.judging { held = held } }
 
@@ -207,7 +207,7 @@ module _ (z : Terms) (xs : List Arrival) (ys : List Gone) (cut : ℕ) (g : Growt
         };
       }
 
-  pub ready-first : (over : List Event) (fs : List Frame) → fs ≡ g.frames.items → IsAfter z xs ys cut over g
+  pub ready-first : (over : List Event) (fs : List LeftFrame) → fs ≡ g.frames.items → IsAfter z xs ys cut over g
       → g.judging.is_unsure ≡ false → g.is_started ≡ false
       → map (state_of (map gone_of fs)) held.items ≡ first_states z (first_levels (link z) z.by z.by.start)
       (map gone_of fs)
@@ -215,9 +215,10 @@ module _ (z : Terms) (xs : List Arrival) (ys : List Gone) (cut : ℕ) (g : Growt
       → IsReady z xs ys cut over WithHeld
   ready-first [] fs e f sure started states within =
       let h = f.sure sure in
-      let states' = subst (λ (l : List Frame). map (state_of (map gone_of l)) held.items
+      let states' = subst (λ (l : List LeftFrame). map (state_of (map gone_of l)) held.items
       ≡ first_states z (first_levels (link z) z.by z.by.start) (map gone_of l)) e states in
-      let within' = subst (λ (l : List Frame). All (λ h. IsWithin g.bounds.rates (length l) 0 h) held.items) e within in
+      let within' = subst (λ (l : List LeftFrame). All (λ h. IsWithin g.bounds.rates (length l) 0 h) held.items) e
+      within in
       record {
         after = record {
           bounds = f.bounds;

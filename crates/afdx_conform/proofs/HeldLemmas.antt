@@ -9,7 +9,7 @@ use Rattle.afdx_conform.specs.Levels.{Levels}
 use Rattle.afdx_conform.specs.Streams.{Gone, Terms, fits}
 use Rattle.afdx_conform.specs.States.{State, state_with, accepted_states, led_by}
 use Rattle.afdx_conform.specs.declared.states.Case.{Case}
-use Rattle.afdx_conform.specs.declared.states.Held.{Held}
+use Rattle.afdx_conform.specs.declared.states.StreamState.{StreamState}
 use Rattle.afdx_conform.specs.HeldStates.{IsNext, IsWithin}
 use Rattle.afdx_conform.specs.declared.states.NextFrame.TheVariants.{Fits}
 
@@ -61,17 +61,17 @@ one-more f g xs i d h =
     ∙ led-append f (map g (take i xs)) (g (get_or xs i d) ∷ [])
     ∙ ap (λ (l : List State). led_by f (map g (take i xs)) ++ l) (led-one f (g (get_or xs i d)))
 
-pub two-pushed : (out one two a b : List Held) → one ≡ out ++ a → two ≡ one ++ b → two ≡ out ++ (a ++ b)
-two-pushed out one two a b e k = k ∙ ap (λ (l : List Held). l ++ b) e ∙ append_assoc out a b
+pub two-pushed : (out one two a b : List StreamState) → one ≡ out ++ a → two ≡ one ++ b → two ≡ out ++ (a ++ b)
+two-pushed out one two a b e k = k ∙ ap (λ (l : List StreamState). l ++ b) e ∙ append_assoc out a b
 
-pub pushed : (g : Held → State) (out one two a b : List Held) → one ≡ out ++ a → two ≡ one ++ b
+pub pushed : (g : StreamState → State) (out one two a b : List StreamState) → one ≡ out ++ a → two ≡ one ++ b
     → map g two ≡ map g out ++ map g (a ++ b)
 pushed g out one two a b e k =
-    ap (λ (l : List Held). map g l) (two-pushed out one two a b e k)
+    ap (λ (l : List StreamState). map g l) (two-pushed out one two a b e k)
     ∙ map-append g out (a ++ b)
 
 -- what an arrival that is accepted leads to is within bounds
-pub accepted-within : (rates : Rates) (frames count waiting : ℕ) (levels : Levels) (held : Option Held)
+pub accepted-within : (rates : Rates) (frames count waiting : ℕ) (levels : Levels) (held : Option StreamState)
     → IfSome held (λ h. h.levels ≡ levels) → IfSome held (λ h. h.waiting ≤ waiting + 1) → waiting ≤ count
     → IfSome held (λ h. h.passed ≤ frames) → AreLevels rates levels → AreNear rates levels
     → IfSome held (λ h. IsWithin rates frames (count + 1) h)

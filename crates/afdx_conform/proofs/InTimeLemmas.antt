@@ -10,7 +10,7 @@ use Rattle.afdx_conform.specs.KnownBytes.{has_bytes, may_fit}
 use Rattle.afdx_conform.specs.Levels.{parts}
 use Rattle.afdx_conform.specs.LimitRanges.{most_bytes}
 use Rattle.afdx_conform.specs.declared.arrived.Arrived.{Arrived}
-use Rattle.afdx_conform.specs.declared.limits.Frame.{Frame}
+use Rattle.afdx_conform.specs.declared.limits.LeftFrame.{LeftFrame}
 use Rattle.afdx_conform.specs.declared.limits.Limits.{Limits}
 
 -- ---- neighbours that are in order
@@ -51,7 +51,7 @@ both-false true true = refl
 both-false true false = refl
 both-false false b = refl
 
-pub fits-no-early : (l : Limits) (f : Frame) (a : Arrived) → a.time + l.latency + l.reach < f.time
+pub fits-no-early : (l : Limits) (f : LeftFrame) (a : Arrived) → a.time + l.latency + l.reach < f.time
     → may_fit l f a ≡ false
 unfolding may_fit
 fits-no-early l f a lt =
@@ -63,7 +63,7 @@ fits-no-early l f a lt =
     ∙ both-false (bytes_eq a.bytes f.bytes)
     (nat_le (a.time + div_ceil (parts * ((length a.bytes + 8) * l.byte_ns)) (parts + l.drift)) (f.time + l.reach))
 
-pub fits-no-late : (l : Limits) (f : Frame) (a : Arrived) (wire : ℕ)
+pub fits-no-late : (l : Limits) (f : LeftFrame) (a : Arrived) (wire : ℕ)
     → wire ≡ div_ceil (parts * ((min (length f.bytes) most_bytes + 8) * l.byte_ns)) (parts + l.drift)
     → length a.bytes ≤ most_bytes → f.time + l.reach < a.time + wire → may_fit l f a ≡ false
 unfolding may_fit
@@ -86,7 +86,7 @@ fits-no-late l f a wire w short lt = by (bytes_eq a.bytes f.bytes) refl
         ap (λ (b : Bool). b && nat_le f.time (a.time + l.latency + l.reach)) early
 
 -- of other bytes none
-pub fits-no-other : (l : Limits) (f : Frame) (a : Arrived) → has_bytes f.bytes a ≡ false → may_fit l f a ≡ false
+pub fits-no-other : (l : Limits) (f : LeftFrame) (a : Arrived) → has_bytes f.bytes a ≡ false → may_fit l f a ≡ false
 unfolding may_fit
 fits-no-other l f a e =
     ap (λ (b : Bool). b && nat_le (a.time + div_ceil (parts * ((length a.bytes + 8) * l.byte_ns)) (parts + l.drift))

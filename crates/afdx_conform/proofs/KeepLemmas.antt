@@ -13,7 +13,7 @@ use Rattle.afdx_conform.specs.HeldStates.{AreClosed, state_of, outdoes, kept_wit
 use Rattle.afdx_conform.specs.Thinned.{Outdoes, IsOutdone, AreEnough, AreKept, IsAmong}
 use Rattle.afdx_conform.proofs.AmongLemmas.{among-left, among-right, among-cases}
 use Rattle.afdx_conform.proofs.ThinLemmas.{outdoes-itself, enough-on}
-use Rattle.afdx_conform.specs.declared.states.Held.{Held}
+use Rattle.afdx_conform.specs.declared.states.StreamState.{StreamState}
 
 -- ---- closings
 
@@ -54,8 +54,9 @@ closed-is time passed ys c p = by (nat_le passed p) refl
     by false e = closed-at time passed p ys c.within c.closed (leb-false passed p e) ∙ sym e
 
 -- those of some that pass a test
-pub kept-filter : (g : Held → State) (test : State → Bool) (told : Held → Bool) → ((h : Held) → test (g h) ≡ told h)
-    → (xs : List Held) → map g (filter told xs) ≡ kept test (map g xs)
+pub kept-filter : (g : StreamState → State) (test : State → Bool) (told : StreamState → Bool) →
+    ((h : StreamState) → test (g h) ≡ told h)
+    → (xs : List StreamState) → map g (filter told xs) ≡ kept test (map g xs)
 unfolding kept
 kept-filter g test told same [] = refl
 kept-filter g test told same (x ∷ xs) =
@@ -70,27 +71,28 @@ kept-filter g test told same (x ∷ xs) =
     by false true e more = absurd (cc)
 
 -- what the code leaves at a closing
-pub closed-left : (ys : List Gone) (time passed : ℕ) (old new : List Held) → AreClosed time passed ys
-    → new ≡ filter (λ (h : Held). nat_le passed h.passed) old
+pub closed-left : (ys : List Gone) (time passed : ℕ) (old new : List StreamState) → AreClosed time passed ys
+    → new ≡ filter (λ (h : StreamState). nat_le passed h.passed) old
     → map (state_of ys) new ≡ kept (λ s. are_behind time s.rest) (map (state_of ys) old)
 closed-left ys time passed old new closed is =
-    ap (λ (l : List Held). map (state_of ys) l) is
+    ap (λ (l : List StreamState). map (state_of ys) l) is
     ∙ kept-filter (state_of ys) (λ s. are_behind time s.rest) (λ h. nat_le passed h.passed)
     (λ h. closed-is time passed ys closed h.passed) old
 
 -- ---- dropping
 
-pub kept-if-outdone : (s : Held) (xs : List Held) → list_any (λ x. outdoes x s) xs ≡ true → xs ≡ kept_with s xs
+pub kept-if-outdone : (s : StreamState) (xs : List StreamState) → list_any (λ x. outdoes x s) xs ≡ true → xs ≡
+    kept_with s xs
 unfolding kept_with
 kept-if-outdone s xs e = sym (if-true (list_any (λ x. outdoes x s) xs) xs _ e)
 
-pub kept-if-not : (s : Held) (xs ys : List Held) → list_any (λ x. outdoes x s) xs ≡ false
+pub kept-if-not : (s : StreamState) (xs ys : List StreamState) → list_any (λ x. outdoes x s) xs ≡ false
     → ys ≡ filter (λ x. not (outdoes s x)) xs ++ (s ∷ []) → ys ≡ kept_with s xs
 unfolding kept_with
 kept-if-not s xs ys e k = k ∙ sym (if-false (list_any (λ x. outdoes x s) xs) xs _ e)
 
 module _ (ys : List Gone) where
-  outdoes-is : (a b : Held) → outdoes a b ≡ true → Outdoes (state_of ys a) (state_of ys b)
+  outdoes-is : (a b : StreamState) → outdoes a b ≡ true → Outdoes (state_of ys a) (state_of ys b)
   unfolding outdoes
   outdoes-is a b e =
       let one = and_parts (nat_eq a.passed b.passed && nat_le a.levels.lo b.levels.lo && nat_le b.levels.hi a.levels.hi)
@@ -106,7 +108,7 @@ module _ (ys : List Gone) where
       }
 
   -- one that outdoes it is there
-  any-outdone : (s : Held) (xs : List Held) → list_any (λ x. outdoes x s) xs ≡ true
+  any-outdone : (s : StreamState) (xs : List StreamState) → list_any (λ x. outdoes x s) xs ≡ true
       → IsOutdone (state_of ys s) (map (state_of ys) xs)
   any-outdone s [] e = absurd (cc)
   any-outdone s (x ∷ xs) e = by (outdoes x s) refl e (λ k. any-outdone s xs k)
@@ -118,7 +120,7 @@ module _ (ys : List Gone) where
       by false k h more = let o = more h in record { by = o.by; among = inr o.among; outdoes = o.outdoes }
 
   -- those that stay are some of them
-  stay-among : (s : Held) (xs : List Held) (t : State)
+  stay-among : (s : StreamState) (xs : List StreamState) (t : State)
       → IsAmong t (map (state_of ys) (filter (λ x. not (outdoes s x)) xs)) → IsAmong t (map (state_of ys) xs)
   stay-among s [] t h = h
   stay-among s (x ∷ xs) t h = by (outdoes s x) refl h (λ k. stay-among s xs t k)
@@ -133,7 +135,7 @@ module _ (ys : List Gone) where
       by false e (inr k) more = inr (more k)
 
   -- each of them stays, or the new one outdoes it
-  stays-or : (s : Held) (xs : List Held) (t : State) → IsAmong t (map (state_of ys) xs)
+  stays-or : (s : StreamState) (xs : List StreamState) (t : State) → IsAmong t (map (state_of ys) xs)
       → IsAmong t (map (state_of ys) (filter (λ x. not (outdoes s x)) xs)) ⊎ Outdoes (state_of ys s) t
   stays-or s [] t h = absurd h
   stays-or s (x ∷ xs) t h = by (outdoes s x) refl h (λ k. stays-or s xs t k)
@@ -155,7 +157,7 @@ module _ (ys : List Gone) where
           later (inl m) = inl (inr m)
           later (inr o) = inr o
 
-  pub kept-enough : (s : Held) (xs : List Held)
+  pub kept-enough : (s : StreamState) (xs : List StreamState)
       → AreEnough (map (state_of ys) (xs ++ (s ∷ []))) (map (state_of ys) (kept_with s xs))
   unfolding kept_with
   kept-enough s xs = by (list_any (λ x. outdoes x s) xs) refl
@@ -223,7 +225,7 @@ module _ (ys : List Gone) where
           }))
 
   -- enough of some, and one more
-  pub enough-with : (all few : List Held) (s : Held)
+  pub enough-with : (all few : List StreamState) (s : StreamState)
       → AreEnough (map (state_of ys) all) (map (state_of ys) few)
       → AreEnough (map (state_of ys) (all ++ (s ∷ []))) (map (state_of ys) (few ++ (s ∷ [])))
   enough-with all few s h =
@@ -256,13 +258,14 @@ module _ (ys : List Gone) where
   pub enough-none : AreEnough [] []
   enough-none = record { among = λ s m. m; outdone = λ s m. absurd m }
 
-  pub enough-next : (xs few more : List Held) (i : ℕ) (d : Held) → i < length xs
+  pub enough-next : (xs few more : List StreamState) (i : ℕ) (d : StreamState) → i < length xs
       → AreEnough (map (state_of ys) (take i xs)) (map (state_of ys) few)
       → more ≡ kept_with (get_or xs i d) few
       → AreEnough (map (state_of ys) (take (i + 1) xs)) (map (state_of ys) more)
   enough-next xs few more i d lt h e =
-      subst (λ (l : List Held). AreEnough (map (state_of ys) (take (i + 1) xs)) (map (state_of ys) l)) (sym e)
-      (subst (λ (l : List Held). AreEnough (map (state_of ys) l) (map (state_of ys) (kept_with (get_or xs i d) few)))
+      subst (λ (l : List StreamState). AreEnough (map (state_of ys) (take (i + 1) xs)) (map (state_of ys) l)) (sym e)
+      (subst (λ (l : List StreamState). AreEnough (map (state_of ys) l)
+      (map (state_of ys) (kept_with (get_or xs i d) few)))
       (sym (take_more xs i d lt))
       (enough-on (map (state_of ys) (take i xs ++ (get_or xs i d ∷ [])))
       (map (state_of ys) (few ++ (get_or xs i d ∷ [])))
@@ -271,7 +274,7 @@ module _ (ys : List Gone) where
 
 -- ---- none outdoes another
 
-pub all-filter : (P : Held → Type 0) (told : Held → Bool) (xs : List Held) → AllByRecursion P xs
+pub all-filter : (P : StreamState → Type 0) (told : StreamState → Bool) (xs : List StreamState) → AllByRecursion P xs
     → AllByRecursion P (filter told xs)
 all-filter P told [] all = tt
 all-filter P told (x ∷ xs) all = by (told x) (all-filter P told xs all.1)
@@ -281,7 +284,7 @@ all-filter P told (x ∷ xs) all = by (told x) (all-filter P told xs all.1)
     by true more = (all.0, more)
     by false more = more
 
-front-filter : (told : Held → Bool) (xs : List Held) → AreFront xs → AreFront (filter told xs)
+front-filter : (told : StreamState → Bool) (xs : List StreamState) → AreFront xs → AreFront (filter told xs)
 unfolding AreFront
 front-filter told [] h = tt
 front-filter told (x ∷ xs) h = by (told x) (front-filter told xs h.1)
@@ -290,7 +293,7 @@ front-filter told (x ∷ xs) h = by (told x) (front-filter told xs h.1)
     by true more = (all-filter (λ y. (outdoes x y ≡ false) × (outdoes y x ≡ false)) told xs h.0, more)
     by false more = more
 
-none-any : (s : Held) (xs : List Held) → list_any (λ x. outdoes x s) xs ≡ false
+none-any : (s : StreamState) (xs : List StreamState) → list_any (λ x. outdoes x s) xs ≡ false
     → AllByRecursion (λ x. outdoes x s ≡ false) xs
 none-any s [] e = tt
 none-any s (x ∷ xs) e = by (outdoes x s) refl e (λ k. none-any s xs k)
@@ -301,7 +304,7 @@ none-any s (x ∷ xs) e = by (outdoes x s) refl e (λ k. none-any s xs k)
     by true k h more = absurd (cc)
     by false k h more = (k, more h)
 
-none-stays : (s : Held) (xs : List Held) → AllByRecursion (λ x. outdoes s x ≡ false)
+none-stays : (s : StreamState) (xs : List StreamState) → AllByRecursion (λ x. outdoes s x ≡ false)
     (filter (λ x. not (outdoes s x)) xs)
 none-stays s [] = tt
 none-stays s (x ∷ xs) = by (outdoes s x) refl (none-stays s xs)
@@ -312,13 +315,14 @@ none-stays s (x ∷ xs) = by (outdoes s x) refl (none-stays s xs)
     by true k more = more
     by false k more = (k, more)
 
-pub all-with : (P : Held → Type 0) (xs : List Held) (s : Held) → AllByRecursion P xs → P s
+pub all-with : (P : StreamState → Type 0) (xs : List StreamState) (s : StreamState) → AllByRecursion P xs → P s
     → AllByRecursion P (xs ++ (s ∷ []))
 all-with P [] s all h = (h, tt)
 all-with P (x ∷ xs) s all h = (all.0, all-with P xs s all.1 h)
 
 -- what is true of those that are kept and of one more is true of what is kept then
-pub kept-all : (P : Held → Type 0) (s : Held) (xs : List Held) → All P xs → P s → All P (kept_with s xs)
+pub kept-all : (P : StreamState → Type 0) (s : StreamState) (xs : List StreamState) → All P xs → P s →
+    All P (kept_with s xs)
 unfolding kept_with
 kept-all P s xs all h = by (list_any (λ x. outdoes x s) xs)
   where
@@ -326,11 +330,11 @@ kept-all P s xs all h = by (list_any (λ x. outdoes x s) xs)
     by true = all
     by false = All-push P (filter (λ x. not (outdoes s x)) xs) s (All-filter (λ x. not (outdoes s x)) P xs all) h
 
-pub all-option : (P : Held → Type 0) (held : Option Held) → IfSome held P → All P (option_to_list held)
+pub all-option : (P : StreamState → Type 0) (held : Option StreamState) → IfSome held P → All P (option_to_list held)
 all-option P None h = All-nil P
 all-option P (Some x) h = All-cons P x [] h (All-nil P)
 
-front-with : (s : Held) (xs : List Held) → AreFront xs → AllByRecursion (λ x. outdoes x s ≡ false) xs
+front-with : (s : StreamState) (xs : List StreamState) → AreFront xs → AllByRecursion (λ x. outdoes x s ≡ false) xs
     → AllByRecursion (λ x. outdoes s x ≡ false) xs → AreFront (xs ++ (s ∷ []))
 unfolding AreFront
 front-with s [] h before behind = (tt, tt)
@@ -339,9 +343,10 @@ front-with s (x ∷ xs) h before behind = (
   front-with s xs h.1 before.1 behind.1,
 )
 
-pub kept-front : (s : Held) (xs more : List Held) → AreFront xs → more ≡ kept_with s xs → AreFront more
+pub kept-front : (s : StreamState) (xs more : List StreamState) → AreFront xs → more ≡ kept_with s xs → AreFront more
 unfolding kept_with
-kept-front s xs more h is = subst (λ (l : List Held). AreFront l) (sym is) (by (list_any (λ x. outdoes x s) xs) refl)
+kept-front s xs more h is =
+    subst (λ (l : List StreamState). AreFront l) (sym is) (by (list_any (λ x. outdoes x s) xs) refl)
   where
     by : (b : Bool) → list_any (λ x. outdoes x s) xs ≡ b
         → AreFront (if b then xs else filter (λ x. not (outdoes s x)) xs ++ (s ∷ []))

@@ -11,7 +11,7 @@ use Rattle.afdx_conform.specs.Findings.{front_rest, lead, with_rest, aged}
 use Rattle.afdx_conform.specs.HeldStates.{state_of, past}
 use Rattle.afdx_conform.specs.States.{State, state_with, kept, led_by, states_at}
 use Rattle.afdx_conform.specs.Streams.{Gone, Terms}
-use Rattle.afdx_conform.specs.declared.states.Held.{Held}
+use Rattle.afdx_conform.specs.declared.states.StreamState.{StreamState}
 
 -- no state has fewer frames left than the front
 least : (states : List State) → AllByRecursion (λ s. length (front_rest states) ≤ length s.rest) states
@@ -37,12 +37,12 @@ least (s ∷ t ∷ more) = by (nat_lt (length s.rest) (length (front_rest (t ∷
 
 module _ (ys : List Gone) where
   -- the state of which the front's frames are
-  record IsFrontOf (held : List Held) (rest : List Gone) (f : ℕ) : Type 0 where
+  record IsFrontOf (held : List StreamState) (rest : List Gone) (f : ℕ) : Type 0 where
     pub passed : ℕ
     pub rest_is : rest ≡ drop passed ys
     pub below : passed ≤ f
 
-  front-of : (held : List Held) (h : Held) (f : ℕ) → All (λ k. k.passed ≤ f) (h ∷ held)
+  front-of : (held : List StreamState) (h : StreamState) (f : ℕ) → All (λ k. k.passed ≤ f) (h ∷ held)
       → IsFrontOf (h ∷ held) (front_rest (map (state_of ys) (h ∷ held))) f
   unfolding front_rest
   front-of [] h f all = record { passed = h.passed; rest_is = refl; below = All-head (λ k. k.passed ≤ f) h [] all }
@@ -55,31 +55,32 @@ module _ (ys : List Gone) where
       by true more = record { passed = h.passed; rest_is = refl; below = All-head (λ k. k.passed ≤ f) h (k ∷ held) all }
       by false more = record { passed = more.passed; rest_is = more.rest_is; below = more.below }
 
-  rests-of : (n : ℕ) (held : List Held) → AllByRecursion (λ s. n ≤ length s.rest) (map (state_of ys) held)
-      → AllByRecursion (λ (h : Held). n ≤ length (drop h.passed ys)) held
+  rests-of : (n : ℕ) (held : List StreamState) → AllByRecursion (λ s. n ≤ length s.rest) (map (state_of ys) held)
+      → AllByRecursion (λ (h : StreamState). n ≤ length (drop h.passed ys)) held
   rests-of n [] all = tt
   rests-of n (h ∷ held) all = (all.0, rests-of n held all.1)
 
-  pub front-drop : (held : List Held) (f none : ℕ) → All (λ h. h.passed ≤ length ys) held → All (λ h. h.passed ≤ f) held
-      → ((held ≡ []) × (f ≡ none)) ⊎ ((h : Held) × Contains held h × (h.passed ≡ f)) → none ≡ length ys
+  pub front-drop : (held : List StreamState) (f none : ℕ) → All (λ h. h.passed ≤ length ys) held →
+      All (λ h. h.passed ≤ f) held
+      → ((held ≡ []) × (f ≡ none)) ⊎ ((h : StreamState) × Contains held h × (h.passed ≡ f)) → none ≡ length ys
       → drop f ys ≡ front_rest (map (state_of ys) held)
   unfolding front_rest
   front-drop held f none within greatest (inl e) is =
       let past : length ys ≤ f = (let a = e.1 in omega (arith, a, is)) in
-      drop_all f ys past ∙ sym (ap (λ (l : List Held). front_rest (map (state_of ys) l)) e.0)
+      drop_all f ys past ∙ sym (ap (λ (l : List StreamState). front_rest (map (state_of ys) l)) e.0)
   front-drop [] f none within greatest (inr (h, c, e)) is =
-      let past = All-contains (λ (k : Held). ⊥) [] h (λ i d lt. absurd (omega (arith, lt))) c in absurd past
+      let past = All-contains (λ (k : StreamState). ⊥) [] h (λ i d lt. absurd (omega (arith, lt))) c in absurd past
   front-drop (k ∷ held) f none within greatest (inr (h, c, e)) is =
       let states = map (state_of ys) (k ∷ held) in
       let o = front-of held k f greatest in
-      let shortest = All-contains (λ (m : Held). length (front_rest (map (state_of ys) (k ∷ held)))
+      let shortest = All-contains (λ (m : StreamState). length (front_rest (map (state_of ys) (k ∷ held)))
       ≤ length (drop m.passed ys)) (k ∷
       held) h
-      (All-from_recursion (λ (m : Held). length (front_rest (map (state_of ys) (k ∷ held)))
+      (All-from_recursion (λ (m : StreamState). length (front_rest (map (state_of ys) (k ∷ held)))
       ≤ length (drop m.passed ys)) (k ∷ held)
       (rests-of (length (front_rest (map (state_of ys) (k ∷ held)))) (k ∷ held)
       (least (map (state_of ys) (k ∷ held))))) c in
-      let inside = All-contains (λ (m : Held). m.passed ≤ length ys) (k ∷ held) h within c in
+      let inside = All-contains (λ (m : StreamState). m.passed ≤ length ys) (k ∷ held) h within c in
       let one = ap (λ (l : List Gone). length l) o.rest_is ∙ length-drop o.passed ys in
       let two = length-drop h.passed ys in
       let below = o.below in
@@ -87,9 +88,9 @@ module _ (ys : List Gone) where
       ap (λ (n : ℕ). drop n ys) same ∙ sym o.rest_is
 
   -- those of the front
-  kept-some : (test : State → Bool) (told : Held → Bool) (P : Held → Type 0)
-      → ((h : Held) → P h → test (state_of ys h) ≡ told h)
-      → (xs : List Held) → All P xs → map (state_of ys) (filter told xs) ≡ kept test (map (state_of ys) xs)
+  kept-some : (test : State → Bool) (told : StreamState → Bool) (P : StreamState → Type 0)
+      → ((h : StreamState) → P h → test (state_of ys h) ≡ told h)
+      → (xs : List StreamState) → All P xs → map (state_of ys) (filter told xs) ≡ kept test (map (state_of ys) xs)
   unfolding kept
   kept-some test told P same [] all = refl
   kept-some test told P same (x ∷ xs) all =
@@ -123,7 +124,7 @@ module _ (ys : List Gone) where
           let is : length (drop p ys) ≡ n = omega (arith, a, d, e, hp, hf) in
           absurd (eqb-false (length (drop p ys)) n k is)
 
-  pub lead-is : (held : List Held) (f : ℕ) → All (λ h. h.passed ≤ length ys) held → f ≤ length ys
+  pub lead-is : (held : List StreamState) (f : ℕ) → All (λ h. h.passed ≤ length ys) held → f ≤ length ys
       → drop f ys ≡ front_rest (map (state_of ys) held)
       → map (state_of ys) (filter (λ h. nat_eq h.passed f) held) ≡ lead (map (state_of ys) held)
   lead-is held f within hf front =
@@ -132,19 +133,20 @@ module _ (ys : List Gone) where
       (λ h w. same-test h.passed f (length (front_rest (map (state_of ys) held))) w hf
       (ap (λ (l : List Gone). length l) (sym front) ∙ length-drop f ys)) held within
 
-  pub past-is : (to : ℕ) (held : List Held) → map (state_of ys) (map (λ h. past to h) held) ≡ with_rest (drop to ys)
+  pub past-is : (to : ℕ) (held : List StreamState) → map (state_of ys) (map (λ h. past to h) held) ≡
+      with_rest (drop to ys)
       (map (state_of ys)
       held)
   past-is to [] = refl
   past-is to (h ∷ held) = ap (λ (l : List State). state_with (drop to ys) h.levels h.waiting ∷ l) (past-is to held)
 
   -- what the code takes for the lead, with other frames left
-  pub lead-past : (held out : List Held) (f to : ℕ) → All (λ h. h.passed ≤ length ys) held → f ≤ length ys
+  pub lead-past : (held out : List StreamState) (f to : ℕ) → All (λ h. h.passed ≤ length ys) held → f ≤ length ys
       → drop f ys ≡ front_rest (map (state_of ys) held)
       → out ≡ map (λ h. past to h) (filter (λ h. nat_eq h.passed f) held)
       → map (state_of ys) out ≡ with_rest (drop to ys) (lead (map (state_of ys) held))
   lead-past held out f to within hf front e =
-      ap (λ (l : List Held). map (state_of ys) l) e
+      ap (λ (l : List StreamState). map (state_of ys) l) e
       ∙ past-is to (filter (λ h. nat_eq h.passed f) held)
       ∙ ap (λ (l : List State). with_rest (drop to ys) l) (lead-is held f within hf front)
 

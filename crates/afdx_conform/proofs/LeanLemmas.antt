@@ -24,9 +24,9 @@ use Rattle.afdx_conform.specs.declared.bounds.Bounds.{Bounds}
 use Rattle.afdx_conform.specs.declared.finding.Mark.{Mark}
 use Rattle.afdx_conform.specs.declared.growth.Growth.{Growth}
 use Rattle.afdx_conform.specs.declared.known_bytes.KnownBytes.{KnownBytes}
-use Rattle.afdx_conform.specs.declared.limits.Frame.{Frame}
+use Rattle.afdx_conform.specs.declared.limits.LeftFrame.{LeftFrame}
 use Rattle.afdx_conform.specs.declared.limits.Limits.{Limits}
-use Rattle.afdx_conform.specs.declared.states.Held.{Held}
+use Rattle.afdx_conform.specs.declared.states.StreamState.{StreamState}
 use Rattle.afdx_conform.proofs.ClosedLemmas.{some-arrived}
 use Rattle.afdx_conform.proofs.ForgetLemmas.{early-arrivals, none-early}
 use Rattle.afdx_conform.proofs.GrowthLemmas.{true-false}
@@ -69,8 +69,8 @@ in-order z xs ys cut over s told h =
 -- ---- which arrivals are asked
 
 -- behind one that is all are
-pub asked-behind : (limits : Limits) (come : List Arrived) (over : ℕ) (frames : List Frame) (passed count : ℕ)
-    (f : Frame)
+pub asked-behind : (limits : Limits) (come : List Arrived) (over : ℕ) (frames : List LeftFrame) (passed count : ℕ)
+    (f : LeftFrame)
     → AreArrivals come → over ≤ length come → passed < length frames → f ≡ get_or frames passed f
     → ((a : Arrived) → count < over → a ≡ get_or come count a → f.time ≤ a.time + limits.latency + limits.reach)
     → (place : ℕ) → count ≤ place → AreAsked limits come over (drop passed frames) place
@@ -80,12 +80,12 @@ asked-behind limits come over frames passed count f order within lt at first pla
     let there = get_or_default come count a b inside in
     let early = first b (omega (arith, le, low, less)) there in
     let up = order count k b a (omega (arith, le, low)) (omega (arith, less, within)) there is in
-    subst (λ (l : List Frame). IsAsked limits a.time l)
-    (sym (drop_more frames passed f lt ∙ ap (λ (v : Frame). v ∷ drop (passed + 1) frames) (sym at)))
+    subst (λ (l : List LeftFrame). IsAsked limits a.time l)
+    (sym (drop_more frames passed f lt ∙ ap (λ (v : LeftFrame). v ∷ drop (passed + 1) frames) (sym at)))
     (omega (arith, early, up))
 
 -- the same without the first of them
-pub asked-drop : (limits : Limits) (come come' : List Arrived) (over over' count : ℕ) (frames : List Frame)
+pub asked-drop : (limits : Limits) (come come' : List Arrived) (over over' count : ℕ) (frames : List LeftFrame)
     → come' ≡ drop count come → over' ≡ over - count → (0 < count → length come ≤ 2 * count)
     → ((place : ℕ) → count ≤ place → length come ≤ 2 * (place + 1) → AreAsked limits come over frames place)
     → (place : ℕ) → length come' ≤ 2 * (place + 1) → AreAsked limits come' over' frames place
@@ -104,7 +104,7 @@ asked-drop limits come come' over over' count frames e less half asked place le 
 
 pub lean-same : (old new : Growth) → IsSame old new → IsLean old → IsLean new
 lean-same old new s l = record {
-  frames = (let c = s.closed in let f = ap (λ (l : List Frame). length l) s.frames in let le = l.frames in omega
+  frames = (let c = s.closed in let f = ap (λ (l : List LeftFrame). length l) s.frames in let le = l.frames in omega
       (arith, c, f, le));
   arrivals = λ place le k a low lt is.
       let size = ap (λ (l : List Arrived). length l) s.arrivals in
@@ -113,10 +113,13 @@ lean-same old new s l = record {
       (is ∙ ap (λ (l : List Arrived). get_or l k a) s.arrivals) in
       subst (λ (b : Bounds). IsAsked b.limits a.time (drop new.closed new.frames.items)) (sym s.bounds)
       (subst (λ (n : ℕ). IsAsked old.bounds.limits a.time (drop n new.frames.items)) (sym s.closed)
-      (subst (λ (l : List Frame). IsAsked old.bounds.limits a.time (drop old.closed l)) (sym s.frames) asked));
+      (subst (λ (l : List LeftFrame). IsAsked old.bounds.limits a.time (drop old.closed l)) (sym s.frames) asked));
   unsure = λ u.
-      let none = l.unsure (sym s.is_unsure ∙ u) in
-      (ap (λ (l : List Arrived). length l) s.arrivals ∙ none.0, ap (λ (l : List Frame). length l) s.frames ∙ none.1);
+      let none = l.unsure (sym s.is_unsure ∙ u) in (
+        ap (λ (l : List Arrived). length l) s.arrivals ∙ none.0,
+        ap (λ (l : List LeftFrame). length l) s.frames ∙
+            none.1,
+      );
 }
 
 pub lean-none : (z : Terms) (s : Growth) → IsAfter z [] [] 0 [] s → s.judging.is_unsure ≡ false → IsLean s
@@ -151,27 +154,28 @@ lean-came a old arrivals' count known' items places sure l = record {
     get-left (x ∷ xs) ys zero d less = refl
     get-left (x ∷ xs) ys (suc i) d less = get-left xs ys i d (omega (arith, less))
 
-pub lean-left : (f : Frame) (old : Growth) (frames' : Vec Frame) (count : ℕ)
+pub lean-left : (f : LeftFrame) (old : Growth) (frames' : Vec LeftFrame) (count : ℕ)
     → frames'.items ≡ old.frames.items ++ (f ∷ []) → old.closed ≤ length old.frames.items
     → old.judging.is_unsure ≡ false → IsLean old
     → IsLean (record old { frames = frames'; left = count })
 lean-left f old frames' count items closed sure l = record {
-  frames = (let size = ap (λ (l : List Frame). length l) items
+  frames = (let size = ap (λ (l : List LeftFrame). length l) items
       ∙ length-append old.frames.items (f ∷ []) in let le = l.frames in
       omega (arith, size, le));
   arrivals = λ place le k b low lt is.
-      subst (λ (l : List Frame). IsAsked old.bounds.limits b.time l)
-      (sym (ap (λ (l : List Frame). drop old.closed l) items ∙ drop-left old.closed old.frames.items (f ∷ []) closed))
+      subst (λ (l : List LeftFrame). IsAsked old.bounds.limits b.time l)
+      (sym (ap (λ (l : List LeftFrame). drop old.closed l) items ∙
+      drop-left old.closed old.frames.items (f ∷ []) closed))
       (more (drop old.closed old.frames.items) b (l.arrivals place le k b low lt is));
   unsure = λ u. absurd (true-false u sure);
 }
   where
-    drop-left : (n : ℕ) (xs ys : List Frame) → n ≤ length xs → drop n (xs ++ ys) ≡ drop n xs ++ ys
+    drop-left : (n : ℕ) (xs ys : List LeftFrame) → n ≤ length xs → drop n (xs ++ ys) ≡ drop n xs ++ ys
     drop-left zero xs ys le = refl
     drop-left (suc n) [] ys le = absurd (omega (arith, le))
     drop-left (suc n) (x ∷ xs) ys le = drop-left n xs ys (omega (arith, le))
 
-    more : (fs : List Frame) (b : Arrived) → IsAsked old.bounds.limits b.time fs
+    more : (fs : List LeftFrame) (b : Arrived) → IsAsked old.bounds.limits b.time fs
         → IsAsked old.bounds.limits b.time (fs ++ (f ∷ []))
     more [] b h = absurd h
     more (g ∷ fs) b h = h
@@ -193,7 +197,7 @@ lean-frames old new s sure half rest asked = record {
       let one = asked place (omega (arith, size, le)) k a low (omega (arith, marks, lt))
       (is ∙ ap (λ (l : List Arrived). get_or l k a) s.arrivals) in
       subst (λ (b : Bounds). IsAsked b.limits a.time (drop new.closed new.frames.items)) (sym s.bounds)
-      (subst (λ (l : List Frame). IsAsked old.bounds.limits a.time l) (sym rest) one);
+      (subst (λ (l : List LeftFrame). IsAsked old.bounds.limits a.time l) (sym rest) one);
   unsure = λ u. absurd (true-false u (s.is_unsure ∙ sure));
 }
 
@@ -220,37 +224,38 @@ lean-both old mid new passed count s t sure is closed frames arrivals marks half
       frames = omega (arith, none);
       arrivals = λ place le k a low lt at.
           subst (λ (b : Bounds). IsAsked b.limits a.time (drop new.closed new.frames.items)) (sym (t.bounds ∙ s.bounds))
-          (subst (λ (l : List Frame). IsAsked old.bounds.limits a.time l) (sym rest) (all place le k a low lt at));
+          (subst (λ (l : List LeftFrame). IsAsked old.bounds.limits a.time l) (sym rest) (all place le k a low lt at));
       unsure = λ u. absurd (true-false u (t.is_unsure ∙ s.is_unsure ∙ sure));
     }
 
 -- ---- what is let go of is asked by no later event
 
-still-mapped : (count : ℕ) (held : List Held) → AllByRecursion (λ h. h.waiting ≡ 0) held
+still-mapped : (count : ℕ) (held : List StreamState) → AllByRecursion (λ h. h.waiting ≡ 0) held
     → AllByRecursion (λ h. h.waiting ≡ 0) (map (λ h. past (h.passed - count) h) held)
 still-mapped count [] all = tt
 still-mapped count (h ∷ held) all = (all.0, still-mapped count held all.1)
 
-pub still-past : (count : ℕ) (held held' : List Held) → held' ≡ map (λ h. past (h.passed - count) h) held
+pub still-past : (count : ℕ) (held held' : List StreamState) → held' ≡ map (λ h. past (h.passed - count) h) held
     → All (λ h. h.waiting ≡ 0) held → All (λ h. h.waiting ≡ 0) held'
 still-past count held held' e all =
-    subst (λ (l : List Held). All (λ h. h.waiting ≡ 0) l) (sym e)
+    subst (λ (l : List StreamState). All (λ h. h.waiting ≡ 0) l) (sym e)
     (All-from_recursion (λ h. h.waiting ≡ 0) (map (λ h. past (h.passed - count) h) held)
     (still-mapped count held (recursion_from_All (λ h. h.waiting ≡ 0) held all)))
 
 -- the arrivals are too early for the frames that are left
 pub early-left : (old mid : Growth) (passed count : ℕ) → KeepsArrivals old mid
     → mid.frames.items ≡ drop passed old.frames.items
-    → ((a : Arrived) (f : Frame) → 0 < count → passed < length old.frames.items
+    → ((a : Arrived) (f : LeftFrame) → 0 < count → passed < length old.frames.items
     → a ≡ get_or old.arrivals.items (count - 1) a
     → f ≡ get_or old.frames.items passed f → IsTooEarly old.bounds.limits a f)
-    → (a : Arrived) (f : Frame) → 0 < count → 0 < length mid.frames.items → a ≡ get_or mid.arrivals.items (count - 1) a
+    → (a : Arrived) (f : LeftFrame) → 0 < count → 0 < length mid.frames.items → a ≡
+    get_or mid.arrivals.items (count - 1) a
     → f ≡ get_or mid.frames.items 0 f → IsTooEarly mid.bounds.limits a f
 early-left old mid passed count s frames early a f some lt at first =
-    let size = ap (λ (l : List Frame). length l) frames ∙ length-drop passed old.frames.items in
+    let size = ap (λ (l : List LeftFrame). length l) frames ∙ length-drop passed old.frames.items in
     subst (λ (b : Bounds). IsTooEarly b.limits a f) (sym s.bounds)
     (early a f some (omega (arith, size, lt)) (at ∙ ap (λ (l : List Arrived). get_or l (count - 1) a) s.arrivals)
-    (first ∙ ap (λ (l : List Frame). get_or l 0 f) frames ∙ get_or-drop passed old.frames.items 0 f
+    (first ∙ ap (λ (l : List LeftFrame). get_or l 0 f) frames ∙ get_or-drop passed old.frames.items 0 f
     ∙ ap (λ (n : ℕ). get_or old.frames.items n f) (omega arith)))
 
 none-marked : (z : Terms) (fs : List Gone) → FitNone z fs (marked_all [] [])
@@ -262,7 +267,8 @@ none-marked z (y ∷ fs) = (tt, none-marked z fs)
 pub early-for : (z : Terms) (xs : List Arrival) (ys : List Gone) (cut : ℕ) (over : List Event) (old : Growth)
     (count : ℕ)
     → AreBounds z old.bounds → AreTold z xs ys → count ≤ length old.arrivals.items
-    → ((a : Arrived) (f : Frame) → 0 < count → 0 < length old.frames.items → a ≡ get_or old.arrivals.items (count - 1) a
+    → ((a : Arrived) (f : LeftFrame) → 0 < count → 0 < length old.frames.items → a ≡
+    get_or old.arrivals.items (count - 1) a
     → f ≡ get_or old.frames.items 0 f → IsTooEarly old.bounds.limits a f)
     → IsHeld z xs ys cut over old
     → FitNone z (map gone_of old.frames.items)

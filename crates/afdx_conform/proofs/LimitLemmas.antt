@@ -8,7 +8,7 @@ use Rattle.afdx_conform.specs.Leeway.{reach}
 use Rattle.afdx_conform.specs.Levels.{parts}
 use Rattle.afdx_conform.specs.Limits.{AreLimits, gone_of}
 use Rattle.afdx_conform.specs.HeldStates.{IsNext}
-use Rattle.afdx_conform.specs.declared.limits.Frame.{Frame}
+use Rattle.afdx_conform.specs.declared.limits.LeftFrame.{LeftFrame}
 use Rattle.afdx_conform.specs.declared.states.NextFrame.TheVariants.{Fits, Other}
 use Rattle.afdx_conform.specs.Streams.{Gone, Terms, fits, is_open, latency, wire_time}
 use Rattle.afdx_conform.specs.declared.limits.Limits.{Limits}
@@ -78,16 +78,17 @@ open-is z x l time end a at until =
     ∙ ap (λ (n : ℕ). time + n + reach z.by + reach z.by) (sym t)
     ∙ ap (λ (n : ℕ). time + l.latency + n + n) (sym s)))
 
-drop-map : (g : Frame → Gone) (fs : List Frame) (p : ℕ) (d : Frame) → p < length fs
+drop-map : (g : LeftFrame → Gone) (fs : List LeftFrame) (p : ℕ) (d : LeftFrame) → p < length fs
     → drop p (map g fs) ≡ g (get_or fs p d) ∷ drop (suc p) (map g fs)
 drop-map g [] p d h = absurd (omega (arith, h))
 drop-map g (f ∷ fs) zero d h = refl
 drop-map g (f ∷ fs) (suc p) d h = drop-map g fs p d (omega (arith, h))
 
-module _ (z : Terms) (x : Arrival) (fs : List Frame) (p : ℕ) (f : Frame) (h : p < length fs) (is : f ≡ get_or fs p f)
+module _ (z : Terms) (x : Arrival) (fs : List LeftFrame) (p : ℕ) (f : LeftFrame) (h : p < length fs)
+    (is : f ≡ get_or fs p f)
   where
     at-next : drop p (map gone_of fs) ≡ gone_of f ∷ drop (suc p) (map gone_of fs)
-    at-next = drop-map gone_of fs p f h ∙ ap (λ (g : Frame). gone_of g ∷ drop (suc p) (map gone_of fs)) (sym is)
+    at-next = drop-map gone_of fs p f h ∙ ap (λ (g : LeftFrame). gone_of g ∷ drop (suc p) (map gone_of fs)) (sym is)
 
     pub fits-next : true ≡ fits z x (gone_of f) → IsNext z x (drop p (map gone_of fs)) Fits
     fits-next e = subst (λ (l : List Gone). IsNext z x l Fits) (sym at-next) (sym e)

@@ -19,7 +19,7 @@ use Rattle.afdx_conform.specs.Limits.{gone_of}
 use Rattle.afdx_conform.specs.States.{Event, Came, Closing, State, arrivals_came}
 use Rattle.afdx_conform.specs.Streams.{Gone, Terms}
 use Rattle.afdx_conform.specs.declared.growth.Growth.{Growth}
-use Rattle.afdx_conform.specs.declared.states.Held.{Held}
+use Rattle.afdx_conform.specs.declared.states.StreamState.{StreamState}
 use Rattle.afdx_conform.proofs.EveryLemmas.{every-all, every-unmap}
 use Rattle.afdx_conform.proofs.GrowthCloses.{closed-unsure}
 use Rattle.afdx_conform.proofs.HistoryLemmas.{every-drop, next-closing}
@@ -87,7 +87,7 @@ module _ (z : Terms) (ys : List Gone) where
 
 -- a state in which only later frames are left explains the frame at this place
 passed-one : (t n : ℕ) (fs : List Gone) (y : Gone) (rest : List Gone) → drop n fs ≡ y ∷ rest → y.time ≡ t
-    → (h : Held) → AllByRecursion (IsPast t) (drop h.passed fs) → suc n ≤ h.passed
+    → (h : StreamState) → AllByRecursion (IsPast t) (drop h.passed fs) → suc n ≤ h.passed
 passed-one t n fs y rest at is h all = by (nat_lt n h.passed) refl
   where
     by : (b : Bool) → nat_lt n h.passed ≡ b → suc n ≤ h.passed
@@ -102,7 +102,8 @@ passed-one t n fs y rest at is h all = by (nat_lt n h.passed) refl
         absurd (omega (arith, late, is))
 
 passed-each : (t n : ℕ) (fs : List Gone) (y : Gone) (rest : List Gone) → drop n fs ≡ y ∷ rest → y.time ≡ t
-    → (held : List Held) → Holds (IsPast t) (map (state_of fs) held) → AllByRecursion (λ h. suc n ≤ h.passed) held
+    → (held : List StreamState) → Holds (IsPast t) (map (state_of fs) held) →
+    AllByRecursion (λ h. suc n ≤ h.passed) held
 passed-each t n fs y rest at is [] all = tt
 passed-each t n fs y rest at is (h ∷ held) all =
     (passed-one t n fs y rest at is h all.0, passed-each t n fs y rest at is held all.1)
@@ -127,7 +128,7 @@ module _ (z : Terms) (xs : List Arrival) (ys : List Gone) (cut : ℕ) (over : Li
       let none = held.kept.closed in
       let n = ap (λ (l : List ℕ). length l) e in
       let zero-closed : s.closed ≡ 0 = omega (arith, none, n) in
-      every-all (λ (h : Held). s.closed ≤ h.passed) (λ h. omega (arith, zero-closed)) s.judging.held.items
+      every-all (λ (h : StreamState). s.closed ≤ h.passed) (λ h. omega (arith, zero-closed)) s.judging.held.items
   passed-by (t ∷ ts) e = by s.closed refl
     where
       count : suc (length ts) ≡ length held.past + s.closed
@@ -139,7 +140,7 @@ module _ (z : Terms) (xs : List Arrival) (ys : List Gone) (cut : ℕ) (over : Li
           (past-after z ys (coming xs over) over (sym g.unsure ∙ sure)))
 
       by : (n : ℕ) → s.closed ≡ n → AllByRecursion (λ h. s.closed ≤ h.passed) s.judging.held.items
-      by zero is = every-all (λ (h : Held). s.closed ≤ h.passed) (λ h. omega (arith, is)) s.judging.held.items
+      by zero is = every-all (λ (h : StreamState). s.closed ≤ h.passed) (λ h. omega (arith, is)) s.judging.held.items
       by (suc n) is =
           let last = last-closed z ys xs over t ts g.events e in
           let place : length ts ≡ length held.past + n = omega (arith, count, is) in

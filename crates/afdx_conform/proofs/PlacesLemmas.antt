@@ -17,7 +17,7 @@ use Rattle.afdx_conform.specs.KnownBytes.{AreEach, AreKept, AreOthers, StandAt, 
 use Rattle.afdx_conform.specs.declared.arrived.Arrived.{Arrived}
 use Rattle.afdx_conform.specs.declared.by_bytes.ByBytes.{ByBytes}
 use Rattle.afdx_conform.specs.declared.known_bytes.KnownBytes.{KnownBytes}
-use Rattle.afdx_conform.specs.declared.places.Places.{Places}
+use Rattle.afdx_conform.specs.declared.places.KeyPlaces.{KeyPlaces}
 
 -- ---- one more place
 
@@ -418,7 +418,7 @@ pub kept-none : {A : Type 0} (r : Option A) → ((x : A) → r ≡ Some x → �
 kept-none None not view is e = sym (ap (λ (o : Option (Vec ℕ)). all_of o) (sym is ∙ e))
 kept-none (Some x) not view is e = absurd (not x refl)
 
-pub kept-empty : (new : Places) → new.by_key.entries ≡ [] → (key : List ℕ) → kept_at new key ≡ []
+pub kept-empty : (new : KeyPlaces) → new.by_key.entries ≡ [] → (key : List ℕ) → kept_at new key ≡ []
 kept-empty new e key = ap (λ es. all_of (lookup (is_at (λ (k : Vec ℕ). slice_cmp nat_cmp key k.items)) es)) e
 
 is-equal : (o : Ordering) → is_eq o ≡ true → o ≡ Equal
@@ -426,7 +426,8 @@ is-equal Less e = absurd (cc)
 is-equal Equal e = refl
 is-equal Greater e = absurd (cc)
 
-module _ (old new : Places) (key : List ℕ) (w : Vec ℕ) (place : ℕ) (items : w.items ≡ kept_at old key ++ (place ∷ []))
+module _ (old new : KeyPlaces) (key : List ℕ) (w : Vec ℕ) (place : ℕ)
+    (items : w.items ≡ kept_at old key ++ (place ∷ []))
   where
     abbrev compare : List ℕ → Vec ℕ → Ordering
     compare by k = slice_cmp nat_cmp by k.items

@@ -15,7 +15,7 @@ use Rattle.afdx_conform.specs.Streams.{Gone, Terms, fits}
 use Rattle.afdx_conform.specs.declared.arrived.Arrived.{Arrived}
 use Rattle.afdx_conform.specs.declared.finding.Mark.{Mark}
 use Rattle.afdx_conform.specs.declared.gaps.Wanted.TheVariants.{ToName, Accepted}
-use Rattle.afdx_conform.specs.declared.limits.Frame.{Frame}
+use Rattle.afdx_conform.specs.declared.limits.LeftFrame.{LeftFrame}
 use Rattle.afdx_conform.specs.declared.limits.Limits.{Limits}
 use Rattle.afdx_conform.proofs.LimitLemmas.{fits-is}
 use Rattle.afdx_conform.proofs.NamingLemmas.{IsNamedFrom, any-behind, any-end, from-end, from-unnamed, unfitting, unnamed}
@@ -52,7 +52,7 @@ others-all : (test : Arrived → Bool) (xs : List Arrived) → AreOthers test xs
 others-all test xs all = subst (λ (l : List Arrived). AreOthers test l) (sym (take_all (length xs) xs (omega arith)))
     all
 
-module _ (z : Terms) (limits : Limits) (f : Frame) (k' : AreLimits z limits) where
+module _ (z : Terms) (limits : Limits) (f : LeftFrame) (k' : AreLimits z limits) where
   abbrev y : Gone
   y = gone_of f
 

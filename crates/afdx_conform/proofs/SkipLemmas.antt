@@ -17,14 +17,14 @@ use Rattle.afdx_conform.specs.declared.arrived.Arrived.{Arrived}
 use Rattle.afdx_conform.specs.declared.finding.Mark.{Mark}
 use Rattle.afdx_conform.specs.declared.judging.Judging.{Judging}
 use Rattle.afdx_conform.specs.declared.levels.Rates.{Rates}
-use Rattle.afdx_conform.specs.declared.limits.Frame.{Frame}
-use Rattle.afdx_conform.specs.declared.states.Held.{Held}
+use Rattle.afdx_conform.specs.declared.limits.LeftFrame.{LeftFrame}
+use Rattle.afdx_conform.specs.declared.states.StreamState.{StreamState}
 use Rattle.afdx_conform.proofs.ClosingLemmas.{close-none, front-before, skip-from}
 use Rattle.afdx_conform.proofs.LeadLemmas.{lead-past}
 use Rattle.afdx_conform.proofs.NamingLemmas.{all-none}
 
 -- the code stands for what is judged then
-pub stands-after : (rates : Rates) (fs : List Frame) (arrivals : List Arrived) (j k : Judged) (old new : Judging)
+pub stands-after : (rates : Rates) (fs : List LeftFrame) (arrivals : List Arrived) (j k : Judged) (old new : Judging)
     (found : List Finding) (t : ℕ) → StandsFor rates fs arrivals j old
     → k ≡ with_states (map (state_of (map gone_of fs)) new.held.items)
     (told t found (marked_all arrivals new.marks.items) j)
@@ -44,17 +44,18 @@ stands-after rates fs arrivals j k old new found t s e u n within len =
       record { findings = refl; frames = refl },
     )
 
-drop-gone : (fs : List Frame) (n : ℕ) → drop n (map gone_of fs) ≡ map gone_of (drop n fs)
+drop-gone : (fs : List LeftFrame) (n : ℕ) → drop n (map gone_of fs) ≡ map gone_of (drop n fs)
 drop-gone fs zero = refl
 drop-gone [] (suc n) = refl
 drop-gone (f ∷ fs) (suc n) = drop-gone fs n
 
-module _ (z : Terms) (time passed foremost front : ℕ) (fs : List Frame) (arrivals : List Arrived) (held out : List Held)
+module _ (z : Terms) (time passed foremost front : ℕ) (fs : List LeftFrame) (arrivals : List Arrived)
+    (held out : List StreamState)
     (found : List Finding) (marks : List Mark) (j : Judged) where
   abbrev ys : List Gone
   ys = map gone_of fs
 
-  abbrev S : List Held → List State
+  abbrev S : List StreamState → List State
   S l = map (state_of (map gone_of fs)) l
 
   abbrev At : ℕ
@@ -106,17 +107,17 @@ module _ (z : Terms) (time passed foremost front : ℕ) (fs : List Frame) (arriv
       let nothing : passed - front ≡ 0 = omega (arith, is) in
       close-none z time passed ys held j closed states sure none
       ∙ ap (λ (l : List State). skipped z time (lead l) (front_rest l) j)
-      (sym states ∙ ap (λ (l : List Held). S l) e)
+      (sym states ∙ ap (λ (l : List StreamState). S l) e)
       ∙ none-fronts
-      ∙ ap (λ (l : List Held). with_states (S l) j) (sym (o
-      ∙ ap (λ (l : List Held). map (λ h. past passed h) (filter (λ h. nat_eq h.passed front) l)) e))
+      ∙ ap (λ (l : List StreamState). with_states (S l) j) (sym (o
+      ∙ ap (λ (l : List StreamState). map (λ h. past passed h) (filter (λ h. nat_eq h.passed front) l)) e))
       ∙ ap (λ (k : Judged). with_states (S out) k)
       (sym (told_is ∙ ap (λ (n : ℕ). unexplained_all z At (map gone_of (take n (drop front fs))) j) nothing
       ∙ all-none z At j))
 
   pub skip-whole : AreClosed time passed ys → list_any (λ h. nat_le passed h.passed) held ≡ false → j.is_unsure ≡ false
       → S held ≡ j.states → All (λ h. h.passed ≤ length ys) held → drop foremost ys ≡ front_rest (S held)
-      → ((held ≡ []) × (foremost ≡ length fs)) ⊎ ((h : Held) × Contains held h × (h.passed ≡ foremost))
+      → ((held ≡ []) × (foremost ≡ length fs)) ⊎ ((h : StreamState) × Contains held h × (h.passed ≡ foremost))
       → front ≡ min foremost passed
       → out ≡ map (λ h. past passed h) (filter (λ h. nat_eq h.passed front) held)
       → After ≡ unexplained_all z At (map gone_of (take (passed - front) (drop front fs))) j
@@ -125,7 +126,7 @@ module _ (z : Terms) (time passed foremost front : ℕ) (fs : List Frame) (arriv
       by (front-before held passed foremost (length fs) none among) among
     where
       by : (held ≡ []) ⊎ (foremost < passed)
-          → ((held ≡ []) × (foremost ≡ length fs)) ⊎ ((h : Held) × Contains held h × (h.passed ≡ foremost))
+          → ((held ≡ []) × (foremost ≡ length fs)) ⊎ ((h : StreamState) × Contains held h × (h.passed ≡ foremost))
           → closed_to z time j ≡ with_states (S out) After
       by (inr lt) m = skip-some closed none sure states within at_front lt (omega (arith, least, lt)) o told_is
       by (inl e) (inl k) =
@@ -133,9 +134,11 @@ module _ (z : Terms) (time passed foremost front : ℕ) (fs : List Frame) (arriv
           let inside = closed.within in
           let f = k.1 in
           skip-none closed none sure states e (omega (arith, least, f, size, inside)) o told_is
-      by (inl e) (inr m) = absurd (All-contains (λ (k : Held). ⊥) [] m.0 (λ i d lt. absurd (omega (arith, lt)))
-          (subst (λ (l : List Held). Contains l m.0) e m.1))
+      by (inl e) (inr m) = absurd (All-contains (λ (k : StreamState). ⊥) [] m.0 (λ i d lt. absurd (omega (arith, lt)))
+          (subst (λ (l : List StreamState). Contains l m.0) e m.1))
 
-pub same-count : (rates : Rates) (frames m n : ℕ) (held : List Held) → m ≡ n → All (λ h. IsWithin rates frames m h) held
+pub same-count : (rates : Rates) (frames m n : ℕ) (held : List StreamState) → m ≡ n →
+    All (λ h. IsWithin rates frames m h) held
     → All (λ h. IsWithin rates frames n h) held
-same-count rates frames m n held e all = subst (λ (k : ℕ). All (λ (h : Held). IsWithin rates frames k h) held) e all
+same-count rates frames m n held e all =
+    subst (λ (k : ℕ). All (λ (h : StreamState). IsWithin rates frames k h) held) e all

@@ -14,7 +14,7 @@ use Rattle.afdx_conform.specs.States.{Event, Came, Closing, State, state_with, a
 use Rattle.afdx_conform.specs.Streams.{Gone, Terms, fits, is_open, is_begun}
 use Rattle.afdx_conform.specs.declared.finding.Deviation.{Deviation}
 use Rattle.afdx_conform.specs.declared.finding.Deviation.TheVariants as deviation
-use Rattle.afdx_conform.specs.declared.states.Held.{Held}
+use Rattle.afdx_conform.specs.declared.states.StreamState.{StreamState}
 use Rattle.afdx_conform.proofs.EveryLemmas.{every-append}
 use Rattle.afdx_conform.proofs.FindingLemmas.{if-both}
 
@@ -175,7 +175,8 @@ module _ (z : Terms) where
 
 -- ---- as the code tests it
 
-pub none-waits : (held : List Held) → All (λ h. h.waiting ≡ 0) held → list_all (λ h. nat_eq h.waiting 0) held ≡ true
+pub none-waits : (held : List StreamState) → All (λ h. h.waiting ≡ 0) held → list_all (λ h. nat_eq h.waiting 0) held ≡
+    true
 none-waits [] all = refl
 none-waits (h ∷ held) all =
     subst (λ (n : ℕ). (nat_eq n 0 && list_all (λ k. nat_eq k.waiting 0) held) ≡ true) (sym (all 0 h (omega arith)))

@@ -6,7 +6,7 @@ use Rattle.afdx_conform.specs.Growing.{IsSame, due_by, due_in, undecided_by}
 use Rattle.afdx_conform.specs.declared.arrived.Arrived.{Arrived}
 use Rattle.afdx_conform.specs.declared.finding.Mark.{Mark}
 use Rattle.afdx_conform.specs.declared.growth.Growth.{Growth}
-use Rattle.afdx_conform.specs.declared.limits.Frame.{Frame}
+use Rattle.afdx_conform.specs.declared.limits.LeftFrame.{LeftFrame}
 
 if-less : (b : Bool) (n m : ℕ) → n < m → (if b then 0 else n) < m
 if-less true n m lt = omega (arith, lt)
@@ -46,17 +46,18 @@ forgot-arrivals old count xs ms e f le =
     let m = ap (λ (l : List Mark). length l) f ∙ length-drop count old.judging.marks.items in
     omega (arith, a, m, le)
 
-pub forgot-frames : (old : Growth) (count : ℕ) (fs : List Frame) → fs ≡ drop count old.frames.items → count ≤ old.closed
+pub forgot-frames : (old : Growth) (count : ℕ) (fs : List LeftFrame) → fs ≡ drop count old.frames.items →
+    count ≤ old.closed
     → (length old.arrivals.items - length old.judging.marks.items) + (length fs - (old.closed - count))
     ≡ (length old.arrivals.items - length old.judging.marks.items) + (length old.frames.items - old.closed)
 forgot-frames old count fs e le =
-    let a = ap (λ (l : List Frame). length l) e ∙ length-drop count old.frames.items in omega (arith, a, le)
+    let a = ap (λ (l : List LeftFrame). length l) e ∙ length-drop count old.frames.items in omega (arith, a, le)
 
 pub undecided-unchanged : (old new : Growth) → IsSame old new → undecided_by new ≡ undecided_by old
 undecided-unchanged old new s =
     let a = ap (λ (l : List Arrived). length l) s.arrivals in
     let m = ap (λ (l : List Mark). length l) s.marks in
-    let f = ap (λ (l : List Frame). length l) s.frames in
+    let f = ap (λ (l : List LeftFrame). length l) s.frames in
     let c = s.closed in
     undecided-same old new s.is_unsure (omega (arith, a, m, f, c))
 
@@ -68,7 +69,7 @@ due-nothing s le few =
     ap (λ (l : List Arrived). if s.judging.is_unsure then None else due_in s.bounds.limits l
     (drop s.closed s.frames.items))
     (drop_all (length s.judging.marks.items) s.arrivals.items le)
-    ∙ ap (λ (l : List Frame). if s.judging.is_unsure then None else due_in s.bounds.limits [] l)
+    ∙ ap (λ (l : List LeftFrame). if s.judging.is_unsure then None else due_in s.bounds.limits [] l)
     (drop_all s.closed s.frames.items few)
     ∙ by s.judging.is_unsure
   where

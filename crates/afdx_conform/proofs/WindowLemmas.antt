@@ -18,7 +18,7 @@ use Rattle.afdx_conform.specs.States.{Event}
 use Rattle.afdx_conform.specs.Streams.{Gone, Terms, latency}
 use Rattle.afdx_conform.specs.declared.arrived.Arrived.{Arrived}
 use Rattle.afdx_conform.specs.declared.growth.Growth.{Growth}
-use Rattle.afdx_conform.specs.declared.limits.Frame.{Frame}
+use Rattle.afdx_conform.specs.declared.limits.LeftFrame.{LeftFrame}
 use Rattle.afdx_conform.specs.declared.limits.Limits.{Limits}
 use Rattle.afdx_conform.proofs.EveryLemmas.{every-map}
 use Rattle.afdx_conform.proofs.FindingLemmas.{if-both}
@@ -48,7 +48,7 @@ unfolding due_by
 due-sure-is s sure = ap (λ (b : Bool). if b then None else due_in s.bounds.limits
     (drop (length s.judging.marks.items) s.arrivals.items) (drop s.closed s.frames.items)) sure
 
-due-frame : (limits : Limits) (moment : ℕ) (come : List Arrived) (f : Frame) (frames : List Frame)
+due-frame : (limits : Limits) (moment : ℕ) (come : List Arrived) (f : LeftFrame) (frames : List LeftFrame)
     → IsNoSooner moment (due_in limits come (f ∷ frames)) → moment ≤ due_at limits (f.time + limits.reach)
 due-frame limits moment [] f frames h = h
 due-frame limits moment (a ∷ come) f frames h = by (nat_lt (f.time + limits.reach) a.time) refl h
@@ -59,7 +59,7 @@ due-frame limits moment (a ∷ come) f frames h = by (nat_lt (f.time + limits.re
     by true e k = k
     by false e k = let le = ltb-false (f.time + limits.reach) a.time e in omega (arith, le, k)
 
-due-arrival : (limits : Limits) (moment : ℕ) (a : Arrived) (come : List Arrived) (frames : List Frame)
+due-arrival : (limits : Limits) (moment : ℕ) (a : Arrived) (come : List Arrived) (frames : List LeftFrame)
     → IsNoSooner moment (due_in limits (a ∷ come) frames) → moment ≤ due_at limits a.time
 due-arrival limits moment a come [] h = h
 due-arrival limits moment a come (f ∷ frames) h = by (nat_lt (f.time + limits.reach) a.time) refl h
@@ -81,7 +81,7 @@ module _ (z : Terms) (xs : List Arrival) (ys : List Gone) (cut : ℕ) (over : Li
   abbrev As : List Arrived
   As = s.arrivals.items
 
-  abbrev Fs : List Frame
+  abbrev Fs : List LeftFrame
   Fs = s.frames.items
 
   abbrev Marks : ℕ
@@ -92,7 +92,7 @@ module _ (z : Terms) (xs : List Arrival) (ys : List Gone) (cut : ℕ) (over : Li
 
   -- the frames that aren't closed
 
-  abbrev IsRecentFrame : Frame → Type 0
+  abbrev IsRecentFrame : LeftFrame → Type 0
   IsRecentFrame f = moment ≤ closing_moment z f.time
 
   frames-recent : All IsRecentFrame (drop s.closed Fs)
@@ -103,7 +103,7 @@ module _ (z : Terms) (xs : List Arrival) (ys : List Gone) (cut : ℕ) (over : Li
       let order = frames-held held.past ys Fs g.told.left held.kept.left in
       let first = get_or Fs s.closed d in
       let one = due-frame s.bounds.limits moment (drop Marks As) first (drop (s.closed + 1) Fs)
-      (subst (λ (l : List Frame). IsNoSooner moment (due_in s.bounds.limits (drop Marks As) l))
+      (subst (λ (l : List LeftFrame). IsNoSooner moment (due_in s.bounds.limits (drop Marks As) l))
       (drop_more Fs s.closed d some) soon) in
       let here = get_or Fs (s.closed + k) d in
       let up = order s.closed (s.closed + k) first here (omega arith) inside (get_or_default Fs s.closed d first some)
@@ -111,7 +111,7 @@ module _ (z : Terms) (xs : List Arrival) (ys : List Gone) (cut : ℕ) (over : Li
       let lat = g.bounds.limits.latency in
       let slip = g.bounds.limits.reach in
       let le : moment ≤ closing_moment z here.time = omega (arith, one, up, lat, slip) in
-      subst (λ (f : Frame). IsRecentFrame f) (sym (get_or-drop s.closed Fs k d)) le
+      subst (λ (f : LeftFrame). IsRecentFrame f) (sym (get_or-drop s.closed Fs k d)) le
 
   frames-few : length Fs ≤ 2 * length (frames_since z moment ys)
   frames-few =
@@ -119,12 +119,12 @@ module _ (z : Terms) (xs : List Arrival) (ys : List Gone) (cut : ℕ) (over : Li
       (held.past ++ map gone_of (take s.closed Fs))
       (map gone_of (drop s.closed Fs))
       (every-map (λ (y : Gone). nat_le moment (closing_moment z y.time) ≡ true) gone_of (drop s.closed Fs)
-      (recursion_from_All (λ (f : Frame). nat_le moment (closing_moment z f.time) ≡ true) (drop s.closed Fs)
+      (recursion_from_All (λ (f : LeftFrame). nat_le moment (closing_moment z f.time) ≡ true) (drop s.closed Fs)
       (λ k d lt. le-leb moment _ (frames-recent k d lt)))) in
       let same : ys ≡ (held.past ++ map gone_of (take s.closed Fs)) ++ map gone_of (drop s.closed Fs) =
       held.kept.left
       ∙ ap (λ (l : List Gone). held.past ++ l)
-      (sym (ap (λ (l : List Frame). map gone_of l) (take-append-drop s.closed Fs))
+      (sym (ap (λ (l : List LeftFrame). map gone_of l) (take-append-drop s.closed Fs))
       ∙ map-append gone_of (take s.closed Fs) (drop s.closed Fs))
       ∙ sym (append_assoc held.past (map gone_of (take s.closed Fs)) (map gone_of (drop s.closed Fs))) in
       let many = ap (λ (l : List Gone). length (frames_since z moment l)) same in
@@ -139,12 +139,12 @@ module _ (z : Terms) (xs : List Arrival) (ys : List Gone) (cut : ℕ) (over : Li
   IsRecent a = moment ≤ closing_moment z (a.time + latency z + reach z.by)
 
   -- one whose event is over, by the first of the frames that aren't closed
-  asked-recent : (a : Arrived) (frames : List Frame) → drop s.closed Fs ≡ frames
+  asked-recent : (a : Arrived) (frames : List LeftFrame) → drop s.closed Fs ≡ frames
       → IsAsked s.bounds.limits a.time frames → IsRecent a
   asked-recent a [] e h = absurd h
   asked-recent a (f ∷ frames) e h =
       let one = due-frame s.bounds.limits moment (drop Marks As) f frames
-      (subst (λ (l : List Frame). IsNoSooner moment (due_in s.bounds.limits (drop Marks As) l)) e soon) in
+      (subst (λ (l : List LeftFrame). IsNoSooner moment (due_in s.bounds.limits (drop Marks As) l)) e soon) in
       let lat = g.bounds.limits.latency in
       let slip = g.bounds.limits.reach in
       omega (arith, one, h, lat, slip)

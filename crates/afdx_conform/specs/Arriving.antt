@@ -28,9 +28,9 @@ use Rattle.afdx_conform.specs.declared.growth.Growth.{Growth}
 use Rattle.afdx_conform.specs.declared.judging.Judging.{Judging}
 use Rattle.afdx_conform.specs.declared.known_bytes.Lookup.{Lookup}
 use Rattle.afdx_conform.specs.declared.levels.Rates.{Rates}
-use Rattle.afdx_conform.specs.declared.limits.Frame.{Frame}
-use Rattle.afdx_conform.specs.declared.recorded.Recorded.{Recorded}
-use Rattle.afdx_conform.specs.declared.states.Held.{Held}
+use Rattle.afdx_conform.specs.declared.limits.LeftFrame.{LeftFrame}
+use Rattle.afdx_conform.specs.declared.recorded.StreamRecord.{StreamRecord}
+use Rattle.afdx_conform.specs.declared.states.StreamState.{StreamState}
 
 -- ---- what a call is given
 
@@ -46,23 +46,23 @@ pub record MayLookUp (lookup : Lookup) (arrivals : List Arrived) : Type 0 where
   pub each : AreEach lookup.known.now arrivals lookup.each.now
 
 -- the frames stand one behind another
-pub record IsSpanOf (span : Span) (frames : List Frame) : Type 0 where
+pub record IsSpanOf (span : Span) (frames : List LeftFrame) : Type 0 where
   pub order : span.first ≤ span.past
   pub within : span.past ≤ length frames
 
 -- the arrivals and frames of a stream, as they stand in its explanations
-abbrev pub arrivals_from : ℕ → Recorded → List Arrival
+abbrev pub arrivals_from : ℕ → StreamRecord → List Arrival
 arrivals_from place recorded = map arrival_of (drop place recorded.arrivals.now)
 
-abbrev pub all_gone : Recorded → List Gone
+abbrev pub all_gone : StreamRecord → List Gone
 all_gone recorded = map gone_of recorded.frames.now
 
-abbrev pub gone_in : Span → Recorded → List Gone
+abbrev pub gone_in : Span → StreamRecord → List Gone
 gone_in span recorded = map gone_of (take (span.past - span.first)
     (drop span.first recorded.frames.now))
 
 -- and so its states
-abbrev pub states_in : Recorded → List Held → List State
+abbrev pub states_in : StreamRecord → List StreamState → List State
 states_in recorded held = map (state_of (all_gone recorded)) held
 
 -- ---- what it makes of the states
@@ -72,7 +72,8 @@ abbrev pub all_led : Terms → (last : ℕ) → Arrival → List State → List 
 all_led z last x states = led_by (λ s. states_at z x (levels_then z s.levels last x) s) states
 
 -- the states where an arrival was accepted that has to pass in each of these
-abbrev pub AreAccepted : ((List Held → Type 0) → Type 0) → Rates → Arrived → ℕ → List Held → Type 0
+abbrev pub AreAccepted : ((List StreamState → Type 0) → Type 0) → Rates → Arrived → ℕ
+    → List StreamState → Type 0
 AreAccepted done rates a ns held =
     (z : Terms) (ys : List Gone) (last : ℕ) → AreRates (link z) z.by rates → IsCharged z a →
     ns ≡ a.time - last → All (λ h. AreNear rates h.levels) held →
@@ -81,8 +82,8 @@ AreAccepted done rates a ns held =
 
 -- what is found where an arrival leads to no state, and how the states go on, are what the rules
 -- say. The arrivals from `from` on came after it.
-abbrev pub Deviates : ((Outcome → Type 0) → Type 0) → Bounds → Recorded → (from : ℕ) → Coming →
-    List Held → Type 0
+abbrev pub Deviates : ((Outcome → Type 0) → Type 0) → Bounds → StreamRecord → (from : ℕ) → Coming →
+    List StreamState → Type 0
 Deviates done bounds recorded from c held =
     (z : Terms) (last : ℕ) (j : Judged) → AreBounds z bounds → IsCharged z c.arrived.now →
     ComesAt z last c → all_led z last (arrival_of c.arrived.now) (states_in recorded held) ≡ [] →
@@ -95,7 +96,7 @@ Deviates done bounds recorded from c held =
 
 -- ---- what it makes of what is judged
 
-module _ (done : (Vec Finding → Type 0) → Type 0) (bounds : Bounds) (recorded : Recorded)
+module _ (done : (Vec Finding → Type 0) → Type 0) (bounds : Bounds) (recorded : StreamRecord)
     (old new : Judging) where
   -- once it was `j`, it is `after`, and what is found is new there
   abbrev pub GoesOn : (time : ℕ) → (j after : Judged) → Type 0

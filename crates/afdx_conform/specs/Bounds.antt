@@ -7,7 +7,7 @@ use Rattle.afdx_conform.specs.Levels.{has_to_pass}
 use Rattle.afdx_conform.specs.Limits.{AreLimits}
 use Rattle.afdx_conform.specs.Streams.{Terms}
 use Rattle.afdx_conform.specs.declared.bounds.Bounds.{Bounds}
-use Rattle.afdx_conform.specs.declared.states.Held.{Held}
+use Rattle.afdx_conform.specs.declared.states.StreamState.{StreamState}
 
 -- these are a stream's rates and limits
 pub record AreBounds (z : Terms) (bounds : Bounds) : Type 0 where
@@ -15,6 +15,6 @@ pub record AreBounds (z : Terms) (bounds : Bounds) : Type 0 where
   pub limits : AreLimits z bounds.limits
 
 -- an arrival has to pass in each of these states, where the one before came at `last`
-abbrev pub HaveToPass : Terms → ℕ → Arrival → List Held → Type 0
+abbrev pub HaveToPass : Terms → ℕ → Arrival → List StreamState → Type 0
 HaveToPass z last x held =
     All (λ h. IsTrue (has_to_pass (link z) z.by (charge z x) (levels_then z h.levels last x))) held

@@ -26,7 +26,7 @@ use Rattle.afdx_conform.specs.States.{Event, Closing, arrivals_came}
 use Rattle.afdx_conform.specs.Streams.{Gone, Terms}
 use Rattle.afdx_conform.specs.declared.arrived.Arrived.{Arrived}
 use Rattle.afdx_conform.specs.declared.growth.Growth.{Growth}
-use Rattle.afdx_conform.specs.declared.limits.Frame.{Frame}
+use Rattle.afdx_conform.specs.declared.limits.LeftFrame.{LeftFrame}
 use Rattle.afdx_conform.specs.declared.limits.Limits.{Limits}
 
 -- the most frames that are counted in findings
@@ -74,7 +74,7 @@ pub record IsSame (before after : Growth) : Type 0 where
 abbrev pub due_at : Limits → ℕ → ℕ
 due_at limits time = time + limits.latency + limits.latency + limits.reach + limits.reach
 
-abbrev pub due_in : Limits → List Arrived → List Frame → Option ℕ
+abbrev pub due_in : Limits → List Arrived → List LeftFrame → Option ℕ
 due_in limits [] [] = None
 due_in limits [] (f ∷ frames) = Some (due_at limits (f.time + limits.reach))
 due_in limits (a ∷ arrivals) [] = Some (due_at limits a.time)

@@ -10,16 +10,16 @@ use Rattle.afdx_conform.specs.Streams.{Gone, Terms, fits, is_open}
 use Rattle.afdx_conform.specs.Accounts.{AreLevels, AreNear}
 use Rattle.afdx_conform.specs.declared.levels.Rates.{Rates}
 use Rattle.afdx_conform.specs.declared.states.Case.{Case}
-use Rattle.afdx_conform.specs.declared.states.Held.{Held}
+use Rattle.afdx_conform.specs.declared.states.StreamState.{StreamState}
 use Rattle.afdx_conform.specs.declared.states.NextFrame.{NextFrame}
 use Rattle.afdx_conform.specs.declared.states.NextFrame.TheVariants.{Fits, Other, Open, Over}
 
 -- of these frames, of which some are explained
-abbrev pub state_of : List Gone → Held → State
+abbrev pub state_of : List Gone → StreamState → State
 state_of ys held = state_with (drop held.passed ys) held.levels held.waiting
 
 -- the same, where so many frames are explained
-abbrev pub past : ℕ → Held → Held
+abbrev pub past : ℕ → StreamState → StreamState
 past passed held = record { passed = passed; levels = held.levels; waiting = held.waiting }
 
 -- that is what stands next for an arrival
@@ -45,19 +45,19 @@ states_if_refused z x levels waiting rest =
     else state_with rest (refused (link z) z.by (charge z x) levels) waiting ∷ []
 
 -- the numbers of a state are small, and its levels those of an account
-pub record IsSmall (rates : Rates) (held : Held) : Type 0 where
+pub record IsSmall (rates : Rates) (held : StreamState) : Type 0 where
   pub passed : held.passed < most_held
   pub waiting : held.waiting < most_held
   pub levels : AreLevels rates held.levels
 
 -- a state of so many frames at most, and so many arrivals
-pub record IsWithin (rates : Rates) (frames count : ℕ) (held : Held) : Type 0 where
+pub record IsWithin (rates : Rates) (frames count : ℕ) (held : StreamState) : Type 0 where
   pub passed : held.passed ≤ frames
   pub waiting : held.waiting ≤ count
   pub levels : AreLevels rates held.levels
   pub near : AreNear rates held.levels
 
-abbrev pub AreWithin : Rates → (frames count : ℕ) → List Held → Type 0
+abbrev pub AreWithin : Rates → (frames count : ℕ) → List StreamState → Type 0
 AreWithin rates frames count held = All (λ h. IsWithin rates frames count h) held
 
 -- with what stands next in it: a frame that fits is one of these
@@ -72,17 +72,17 @@ pub record AreClosed (time passed : ℕ) (ys : List Gone) : Type 0 where
   pub behind : IsTrue (are_behind time (drop passed ys))
 
 -- a state that allows all that another does, with no more arrivals that wait
-unfoldable pub outdoes : Held → Held → Bool
+unfoldable pub outdoes : StreamState → StreamState → Bool
 outdoes a b = nat_eq a.passed b.passed && nat_le a.levels.lo b.levels.lo
     && nat_le b.levels.hi a.levels.hi && nat_le a.waiting b.waiting
 
 -- one more is kept where none outdoes it, in place of those that it outdoes
-unfoldable pub kept_with : Held → List Held → List Held
+unfoldable pub kept_with : StreamState → List StreamState → List StreamState
 kept_with s held = if list_any (λ x. outdoes x s) held then held
     else filter (λ x. not (outdoes s x)) held ++ (s ∷ [])
 
 -- none of these outdoes another
-unfoldable pub AreFront : List Held → Type 0
+unfoldable pub AreFront : List StreamState → Type 0
 AreFront [] = ⊤
 AreFront (x ∷ xs) =
     AllByRecursion (λ y. (outdoes x y ≡ false) × (outdoes y x ≡ false)) xs × AreFront xs

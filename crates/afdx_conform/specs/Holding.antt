@@ -2,7 +2,7 @@
 use Rattle.std.specs.Prelude.{◌≡◌, ℕ, ◌+◌, ◌*◌, ◌<◌, ◌≤◌, true, List, [], ◌∷◌, drop, get_or, length}
 use Rattle.afdx_conform.specs.declared.arrived.Arrived.{Arrived}
 use Rattle.afdx_conform.specs.declared.growth.Growth.{Growth}
-use Rattle.afdx_conform.specs.declared.limits.Frame.{Frame}
+use Rattle.afdx_conform.specs.declared.limits.LeftFrame.{LeftFrame}
 use Rattle.afdx_conform.specs.declared.limits.Limits.{Limits}
 
 -- arrivals that go by time
@@ -11,16 +11,16 @@ AreArrivals arrivals = (i k : ℕ) (a b : Arrived) → i ≤ k → k < length ar
     → a ≡ get_or arrivals i a → b ≡ get_or arrivals k b → a.time ≤ b.time
 
 -- the arrival came so early that the frame left too late to be its
-abbrev pub IsTooEarly : Limits → Arrived → Frame → Type 0
+abbrev pub IsTooEarly : Limits → Arrived → LeftFrame → Type 0
 IsTooEarly limits a f = a.time + limits.latency + limits.reach < f.time
 
 -- the first of these frames left early enough to be of an arrival of this time
-abbrev pub IsAsked : Limits → ℕ → List Frame → Type 0
+abbrev pub IsAsked : Limits → ℕ → List LeftFrame → Type 0
 IsAsked limits time [] = ⊥
 IsAsked limits time (f ∷ frames) = f.time ≤ time + limits.latency + limits.reach
 
 -- it did for each of the arrivals from a place on, of the first so many, whose events are over
-abbrev pub AreAsked : Limits → List Arrived → (over : ℕ) → List Frame → (place : ℕ) → Type 0
+abbrev pub AreAsked : Limits → List Arrived → (over : ℕ) → List LeftFrame → (place : ℕ) → Type 0
 AreAsked limits arrivals over frames place = (k : ℕ) (a : Arrived) → place ≤ k → k < over
     → a ≡ get_or arrivals k a → IsAsked limits a.time frames
 

@@ -7,11 +7,11 @@ use Rattle.afdx_conform.specs.Marks.{marked_all}
 use Rattle.afdx_conform.specs.declared.arrived.Arrived.{Arrived}
 use Rattle.afdx_conform.specs.declared.judging.Judging.{Judging}
 use Rattle.afdx_conform.specs.declared.levels.Rates.{Rates}
-use Rattle.afdx_conform.specs.declared.limits.Frame.{Frame}
+use Rattle.afdx_conform.specs.declared.limits.LeftFrame.{LeftFrame}
 
 -- of a stream of these frames and arrivals it keeps all but the findings
-pub record StandsFor (rates : Rates) (frames : List Frame) (arrivals : List Arrived) (j : Judged)
-    (g : Judging) : Type 0 where
+pub record StandsFor (rates : Rates) (frames : List LeftFrame) (arrivals : List Arrived)
+    (j : Judged) (g : Judging) : Type 0 where
   pub states : map (state_of (map gone_of frames)) g.held.items ≡ j.states
   pub within : All (λ h. IsWithin rates (length frames) (length g.marks.items) h) g.held.items
   pub marks : marked_all arrivals g.marks.items ≡ j.arrivals

@@ -15,9 +15,9 @@ use Rattle.afdx_conform.specs.Levels.{parts}
 use Rattle.afdx_conform.specs.declared.arrived.Arrived.{Arrived}
 use Rattle.afdx_conform.specs.declared.by_bytes.ByBytes.{ByBytes}
 use Rattle.afdx_conform.specs.declared.known_bytes.KnownBytes.{KnownBytes}
-use Rattle.afdx_conform.specs.declared.limits.Frame.{Frame}
+use Rattle.afdx_conform.specs.declared.limits.LeftFrame.{LeftFrame}
 use Rattle.afdx_conform.specs.declared.limits.Limits.{Limits}
-use Rattle.afdx_conform.specs.declared.places.Places.{Places}
+use Rattle.afdx_conform.specs.declared.places.KeyPlaces.{KeyPlaces}
 
 -- all but the last four of them
 abbrev pub front_of : List ℕ → List ℕ
@@ -47,11 +47,11 @@ all_of None = []
 all_of (Some places) = places.items
 
 -- those that are kept at a key
-abbrev pub kept_at : Places → List ℕ → List ℕ
+abbrev pub kept_at : KeyPlaces → List ℕ → List ℕ
 kept_at places key = all_of (get_by (λ k. slice_cmp nat_cmp key k.items) places.by_key)
 
 -- those of bytes that are sealed so
-abbrev pub sealed_so : Seal → ByBytes → Places
+abbrev pub sealed_so : Seal → ByBytes → KeyPlaces
 sealed_so Right places = places.right
 sealed_so Wrong places = places.wrong
 sealed_so Missing places = places.other
@@ -78,7 +78,7 @@ abbrev pub has_bytes : List ℕ → Arrived → Bool
 has_bytes bytes a = bytes_eq a.bytes bytes
 
 -- the frame may be what the switch made of the arrival, by the bytes and times of both
-unfoldable pub may_fit : Limits → Frame → Arrived → Bool
+unfoldable pub may_fit : Limits → LeftFrame → Arrived → Bool
 may_fit limits frame a = bytes_eq a.bytes frame.bytes
     && nat_le
     (a.time + div_ceil (parts * ((length a.bytes + 8) * limits.byte_ns)) (parts + limits.drift))

@@ -2,11 +2,11 @@
 use Rattle.std.specs.Prelude.{◌≡◌, ℕ, ◌<◌, ◌≤◌, List, get_or, length}
 use Rattle.afdx_conform.specs.Leeway.{reach}
 use Rattle.afdx_conform.specs.Streams.{Gone, Terms, latency}
-use Rattle.afdx_conform.specs.declared.limits.Frame.{Frame}
+use Rattle.afdx_conform.specs.declared.limits.LeftFrame.{LeftFrame}
 use Rattle.afdx_conform.specs.declared.limits.Limits.{Limits}
 
 -- the frame as one that left
-abbrev pub gone_of : Frame → Gone
+abbrev pub gone_of : LeftFrame → Gone
 gone_of frame = record { number = frame.number; time = frame.time; bytes = frame.bytes }
 
 -- these are a stream's limits
@@ -17,6 +17,6 @@ pub record AreLimits (z : Terms) (limits : Limits) : Type 0 where
   pub drift : limits.drift ≡ z.by.drift
 
 -- frames that go by time
-abbrev pub AreFrames : List Frame → Type 0
-AreFrames frames = (i k : ℕ) (f g : Frame) → i ≤ k → k < length frames
+abbrev pub AreFrames : List LeftFrame → Type 0
+AreFrames frames = (i k : ℕ) (f g : LeftFrame) → i ≤ k → k < length frames
     → f ≡ get_or frames i f → g ≡ get_or frames k g → f.time ≤ g.time

@@ -10,7 +10,7 @@ use Rattle.afdx_conform.specs.declared.gaps.Gap.{Gap}
 use Rattle.afdx_conform.specs.declared.gaps.Gaps.{Gaps}
 use Rattle.afdx_conform.specs.declared.gaps.Wanted.{Wanted}
 use Rattle.afdx_conform.specs.declared.gaps.Wanted.TheVariants.{ToName, Accepted}
-use Rattle.afdx_conform.specs.declared.limits.Frame.{Frame}
+use Rattle.afdx_conform.specs.declared.limits.LeftFrame.{LeftFrame}
 use Rattle.afdx_conform.specs.declared.limits.Limits.{Limits}
 use Rattle.afdx_conform.specs.KnownBytes.{has_bytes, may_fit}
 use Rattle.afdx_conform.specs.Streams.{Gone, Terms}
@@ -51,7 +51,7 @@ pub record AreSettled (gaps : List Gaps) (arrivals : List Arrived) (marks : List
       (get_or gaps i no_gaps) arrivals marks
 
 -- the first so many arrivals are judged, and none of them that the frame fits is wanted
-pub record NoneIsWanted (wanted : Wanted) (limits : Limits) (frame : Frame) (count : ℕ)
+pub record NoneIsWanted (wanted : Wanted) (limits : Limits) (frame : LeftFrame) (count : ℕ)
     (arrivals : List Arrived) (marks : List Mark) : Type 0 where
   pub within : count ≤ length marks
   pub none : (p : ℕ) (a : Arrived) (m : Mark) → p < count →

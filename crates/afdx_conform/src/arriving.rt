@@ -29,8 +29,8 @@ use crate::known_bytes::{KnownBytes, Lookup};
 use crate::leading::{led_alone, led_from};
 use crate::levels::Rates;
 use crate::naming::unexplained_all;
-use crate::recorded::Recorded;
-use crate::states::{Held, thinned};
+use crate::recorded::StreamRecord;
+use crate::states::{StreamState, thinned};
 use crate::testing::{is_uncertain, may_go_once};
 use afdx_police::Reason;
 use std::alloc::{AllocError, Global};
@@ -47,7 +47,7 @@ struct Tested {
 }
 
 /// Why the rule refuses an arrival for its rate, if it does so in each of these states.
-fn refusal(rates: &Rates, held: &[Held], arrived: &Arrived, ns: u64) -> Option<Reason>
+fn refusal(rates: &Rates, held: &[StreamState], arrived: &Arrived, ns: u64) -> Option<Reason>
     requires { All (λ h. AreLevels rates.now h.levels) held.now }
     ensures { (z : Terms) (ys : List Gone) (last : ℕ) →
         AreRates (link z) z.by rates.now → IsCharged z arrived.now →
@@ -62,7 +62,7 @@ fn refusal(rates: &Rates, held: &[Held], arrived: &Arrived, ns: u64) -> Option<R
 }
 
 /// Tests an arrival in the states before it.
-fn test_arrival(rates: &Rates, held: &[Held], arrived: &Arrived, ns: u64) -> Tested
+fn test_arrival(rates: &Rates, held: &[StreamState], arrived: &Arrived, ns: u64) -> Tested
     requires { All (λ h. AreLevels rates.now h.levels) held.now }
     ensures reason { (z : Terms) (ys : List Gone) (last : ℕ) →
         AreRates (link z) z.by rates.now → IsCharged z arrived.now →
@@ -80,7 +80,7 @@ fn test_arrival(rates: &Rates, held: &[Held], arrived: &Arrived, ns: u64) -> Tes
 }
 
 /// These are the states then; if they are too many, nothing is judged any more.
-fn settle(judging: &mut Judging, few: Vec<Held>, is_uncertain: bool)
+fn settle(judging: &mut Judging, few: Vec<StreamState>, is_uncertain: bool)
     requires { judging.old.uncertain < most_held }
     ensures held { judging.new.held.items ≡ few.items }
     ensures marks { judging.new.marks.items ≡ judging.old.marks.items }
@@ -99,7 +99,7 @@ fn settle(judging: &mut Judging, few: Vec<Held>, is_uncertain: bool)
 fn go_on(
     judging: &mut Judging,
     alloc: Global,
-    led: &[Held],
+    led: &[StreamState],
     tested: Tested,
 ) -> Result<(), AllocError>
     requires { judging.old.uncertain < most_held }
@@ -128,7 +128,7 @@ fn go_on(
 
 /// The arrival led from the one state to one: its mark is kept, and this state in place of the one
 /// before. Fails only out of memory; then nothing has changed.
-fn go_on_alone(judging: &mut Judging, state: Held, tested: Tested) -> Result<(), AllocError>
+fn go_on_alone(judging: &mut Judging, state: StreamState, tested: Tested) -> Result<(), AllocError>
     requires counted { judging.old.uncertain < most_held }
     requires alone { length judging.old.held.items ≡ 1 }
     ensures held { OnOk result (judging.new.held.items ≡ state ∷ []) }
@@ -169,7 +169,7 @@ fn go_wrong(
     alloc: Global,
     bounds: &Bounds,
     known: &mut KnownBytes,
-    recorded: &Recorded<'_>,
+    recorded: &StreamRecord<'_>,
     coming: &Coming<'_>,
 ) -> Result<Vec<Finding>, AllocError>
     requires place { length judging.old.marks.items < length recorded.now.arrivals.now }
@@ -209,7 +209,7 @@ fn go_wrong(
     let mut found = Vec::with_capacity(alloc, frames.len() + 1)?;
     judging.marks.reserve(1)?;
     let marks = &mut judging.marks;
-    let passed = Recorded { arrivals, frames };
+    let passed = StreamRecord { arrivals, frames };
     unexplained_all(&bounds.limits, known, &passed, each, marks, &mut found);
     add_last(&mut found, outcome.last);
     judging.marks.push_reserved(Mark {
@@ -227,7 +227,7 @@ pub(crate) fn judge_with(
     alloc: Global,
     bounds: &Bounds,
     known: &mut KnownBytes,
-    recorded: &Recorded<'_>,
+    recorded: &StreamRecord<'_>,
     coming: &Coming<'_>,
 ) -> Result<Vec<Finding>, AllocError>
     requires place { length judging.old.marks.items < length recorded.now.arrivals.now }

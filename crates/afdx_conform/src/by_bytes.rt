@@ -5,7 +5,7 @@ ghost use Rattle.std.specs.Str.{bytes_eq};
 ghost use Rattle.afdx_conform.specs.KnownBytes.{kept_of};
 
 use crate::checked_bytes::CheckedBytes;
-use crate::places::Places;
+use crate::places::KeyPlaces;
 use afdx_frame::Seal;
 use std::alloc::{AllocError, Global};
 
@@ -13,9 +13,9 @@ use std::alloc::{AllocError, Global};
 /// sealed.
 #[derive(Drop)]
 pub(crate) struct ByBytes {
-    right: Places,
-    wrong: Places,
-    other: Places,
+    right: KeyPlaces,
+    wrong: KeyPlaces,
+    other: KeyPlaces,
 }
 
 impl ByBytes {
@@ -23,9 +23,9 @@ impl ByBytes {
     pub(crate) fn new(alloc: Global) -> ByBytes
         ensures { (bytes : List ℕ) → kept_of result bytes ≡ [] }
     {
-        let right = Places::new(alloc);
-        let wrong = Places::new(alloc);
-        let other = Places::new(alloc);
+        let right = KeyPlaces::new(alloc);
+        let wrong = KeyPlaces::new(alloc);
+        let other = KeyPlaces::new(alloc);
         ByBytes {
             right,
             wrong,

@@ -8,16 +8,16 @@ ghost use Rattle.afdx_conform.specs.Marks.{arrival_of};
 ghost use Rattle.afdx_conform.specs.Streams.{Terms, is_open as is_open_by};
 
 use crate::coming::Coming;
-use crate::limits::{Frame, Limits};
-use crate::states::{Case, Held};
+use crate::limits::{LeftFrame, Limits};
+use crate::states::{Case, StreamState};
 use std::alloc::{AllocError, Global};
 
 /// Of each state, what stands next in it for the arrival that comes. Fails only out of memory.
 pub(crate) fn cases_of(
     alloc: Global,
     limits: &Limits,
-    held: &[Held],
-    frames: &[Frame],
+    held: &[StreamState],
+    frames: &[LeftFrame],
     coming: &Coming<'_>,
 ) -> Result<Vec<Case>, AllocError>
     ensures held { IfOk result (λ out. map (λ c. c.held) out.items ≡ held.now) }

@@ -25,8 +25,8 @@ use crate::first::first_held;
 use crate::forgetting::passed_by_all;
 use crate::growth::Growth;
 use crate::judging::close_with;
-use crate::limits::{Frame, Limits};
-use crate::recorded::Recorded;
+use crate::limits::{LeftFrame, Limits};
+use crate::recorded::StreamRecord;
 use crate::spare::Spare;
 use crate::upcoming::{Upcoming, moment_of};
 use std::alloc::{AllocError, Global};
@@ -185,7 +185,7 @@ impl Growth {
             ns,
             is_open,
         };
-        let recorded = Recorded {
+        let recorded = StreamRecord {
             arrivals: self.arrivals.as_slice(),
             frames: self.frames.as_slice(),
         };
@@ -211,7 +211,7 @@ impl Growth {
         requires place { self.old.closed < length self.old.frames.items }
         ensures sound { IsSound self.new }
         ensures decides { IfOk result (λ found. (z : Terms) (xs : List Arrival) (ys : List Gone)
-            (cut : ℕ) (over : List Event) (f : Frame) → self.old.judging.is_unsure ≡ false →
+            (cut : ℕ) (over : List Event) (f : LeftFrame) → self.old.judging.is_unsure ≡ false →
             f ≡ get_or self.old.frames.items self.old.closed f →
             next_of z (coming xs over) (unclosed ys over) ≡ Some (Closing f.time) →
             IsReady z xs ys cut over self.old →
@@ -223,7 +223,7 @@ impl Growth {
         let time = self.frames[self.closed].time;
         let frames = self.frames.as_slice();
         let to = closed_by(frames, self.closed + 1, self.closing, time);
-        let recorded = Recorded {
+        let recorded = StreamRecord {
             arrivals: self.arrivals.as_slice(),
             frames: self.frames.as_slice(),
         };

@@ -21,9 +21,9 @@ use crate::fronts::{front_of, lead_past};
 use crate::known_bytes::Lookup;
 use crate::leading::{accept_all, led_from};
 use crate::levels::Rates;
-use crate::limits::{Frame, Limits};
-use crate::recorded::Recorded;
-use crate::states::Held;
+use crate::limits::{LeftFrame, Limits};
+use crate::recorded::StreamRecord;
+use crate::states::StreamState;
 use std::alloc::{AllocError, Global};
 
 /// Frames of a stream: those from `first` on, before `past`.
@@ -37,13 +37,13 @@ pub(crate) struct Span {
 /// if there is something.
 #[derive(Drop)]
 pub(crate) struct Outcome {
-    pub(crate) held: Vec<Held>,
+    pub(crate) held: Vec<StreamState>,
     pub(crate) passed: Span,
     pub(crate) last: Option<Finding>,
 }
 
 /// Whether there is a state.
-pub(crate) fn has_any(held: &[Held]) -> bool
+pub(crate) fn has_any(held: &[StreamState]) -> bool
     ensures left { IsTrue result → ¬ (held.now ≡ []) }
     ensures none { result ≡ false → held.now ≡ [] }
 {
@@ -55,7 +55,7 @@ pub(crate) fn has_any(held: &[Held]) -> bool
 fn accept_with(
     alloc: Global,
     rates: &Rates,
-    held: Vec<Held>,
+    held: Vec<StreamState>,
     coming: &Coming<'_>,
     passed: Span,
     finding: Finding,
@@ -80,10 +80,10 @@ fn accept_with(
 /// What the switch did with the arrival, by this frame.
 fn deviation_by(
     limits: &Limits,
-    recorded: &Recorded<'_>,
+    recorded: &StreamRecord<'_>,
     lookup: &Lookup<'_>,
     coming: &Coming<'_>,
-    frame: &Frame,
+    frame: &LeftFrame,
 ) -> Deviation
     requires { MayLookUp lookup.now recorded.now.arrivals.now }
     ensures { (z : Terms) → AreLimits z limits.now → result
@@ -101,8 +101,8 @@ fn deviation_by(
 pub(crate) fn deviate(
     alloc: Global,
     bounds: &Bounds,
-    held: Vec<Held>,
-    recorded: &Recorded<'_>,
+    held: Vec<StreamState>,
+    recorded: &StreamRecord<'_>,
     lookup: &Lookup<'_>,
     coming: &Coming<'_>,
 ) -> Result<Outcome, AllocError>

@@ -13,11 +13,11 @@ ghost use Rattle.afdx_conform.specs.Streams.{latency, wire_time};
 
 use crate::arrived::Arrived;
 use crate::finding::{Deviation, Finding};
-use crate::limits::{Frame, Limits};
+use crate::limits::{LeftFrame, Limits};
 use crate::places::no_less;
 
 /// Whether the frame left so late that, at worst, it is of another arrival.
-fn is_far(limits: &Limits, arrived: &Arrived, frame: &Frame) -> bool
+fn is_far(limits: &Limits, arrived: &Arrived, frame: &LeftFrame) -> bool
     ensures { (z : Terms) → AreLimits z limits.now →
         result ≡ far z (arrival_of arrived.now) (gone_of frame.now) }
 {
@@ -25,7 +25,7 @@ fn is_far(limits: &Limits, arrived: &Arrived, frame: &Frame) -> bool
 }
 
 /// Whether the frame left too late to be of the arrival.
-fn is_late(limits: &Limits, arrived: &Arrived, frame: &Frame) -> bool
+fn is_late(limits: &Limits, arrived: &Arrived, frame: &LeftFrame) -> bool
     ensures { (z : Terms) → AreLimits z limits.now →
         result ≡ late z (arrival_of arrived.now) (gone_of frame.now) }
 {
@@ -33,7 +33,7 @@ fn is_late(limits: &Limits, arrived: &Arrived, frame: &Frame) -> bool
 }
 
 /// Whether the frame isn't too early to be of the arrival.
-fn is_no_sooner(limits: &Limits, arrived: &Arrived, frame: &Frame) -> bool
+fn is_no_sooner(limits: &Limits, arrived: &Arrived, frame: &LeftFrame) -> bool
     ensures { (z : Terms) → AreLimits z limits.now →
         result ≡ no_sooner z (arrival_of arrived.now) (gone_of frame.now) }
 {
@@ -42,14 +42,14 @@ fn is_no_sooner(limits: &Limits, arrived: &Arrived, frame: &Frame) -> bool
 }
 
 /// Whether the frame has the bytes of the arrival.
-fn is_same(arrived: &Arrived, frame: &Frame) -> bool
+fn is_same(arrived: &Arrived, frame: &LeftFrame) -> bool
     ensures { result ≡ bytes_eq arrived.now.bytes frame.now.bytes }
 {
     arrived.bytes.is_same(&frame.bytes)
 }
 
 /// Whether the frame is the arrival's, and left too early.
-fn is_early(limits: &Limits, arrived: &Arrived, frame: &Frame) -> bool
+fn is_early(limits: &Limits, arrived: &Arrived, frame: &LeftFrame) -> bool
     ensures { (z : Terms) → AreLimits z limits.now →
         result ≡ early z (arrival_of arrived.now) (gone_of frame.now) }
 {
@@ -69,7 +69,7 @@ fn fits_one(
     arrivals: &[Arrived],
     from: usize,
     places: &[usize],
-    frame: &Frame,
+    frame: &LeftFrame,
 ) -> bool
     requires { StandAt (may_fit limits.now frame.now) from (drop from arrivals.now) places.now }
     ensures { (z : Terms) → AreLimits z limits.now → result
@@ -89,7 +89,7 @@ fn fits_one(
 }
 
 /// By how many ns the frame, which is the arrival's, left too early.
-fn early_by(limits: &Limits, arrived: &Arrived, frame: &Frame) -> u64
+fn early_by(limits: &Limits, arrived: &Arrived, frame: &LeftFrame) -> u64
     ensures { (z : Terms) → AreLimits z limits.now → result
         ≡ arrived.now.time + wire_time z arrived.now.bytes - frame.now.time }
 {
@@ -98,7 +98,7 @@ fn early_by(limits: &Limits, arrived: &Arrived, frame: &Frame) -> u64
 }
 
 /// By how many ns the frame, which is the arrival's, left too late.
-fn late_by(limits: &Limits, arrived: &Arrived, frame: &Frame) -> u64
+fn late_by(limits: &Limits, arrived: &Arrived, frame: &LeftFrame) -> u64
     ensures { (z : Terms) → AreLimits z limits.now → result
         ≡ frame.now.time - arrived.now.time - latency z }
 {
@@ -116,7 +116,7 @@ pub(crate) fn deviation(
     arrivals: &[Arrived],
     from: usize,
     places: &[usize],
-    frame: &Frame,
+    frame: &LeftFrame,
 ) -> Deviation
     requires { StandAt (may_fit limits.now frame.now) 0 arrivals.now places.now }
     ensures { (z : Terms) → AreLimits z limits.now → result

@@ -14,24 +14,24 @@ ghost use Rattle.afdx_conform.specs.Streams.{Gone, Terms};
 use crate::counts::Counts;
 use crate::fronts::front_of;
 use crate::growth::Growth;
-use crate::limits::{Frame, Limits};
-use crate::states::Held;
+use crate::limits::{LeftFrame, Limits};
+use crate::states::StreamState;
 
 /// Whether what is shown of the frame may lie behind the end of the recordings.
-fn is_cut(limits: &Limits, frame: &Frame, until: u64) -> bool
+fn is_cut(limits: &Limits, frame: &LeftFrame, until: u64) -> bool
     ensures { IsTrue result ↔ (until < frame.now.time + limits.now.reach) }
 {
     until < frame.time + limits.reach
 }
 
 /// How many of the frames aren't cut off; those from `from` on are looked at.
-fn kept_until(limits: &Limits, frames: &[Frame], from: usize, until: u64) -> usize
+fn kept_until(limits: &Limits, frames: &[LeftFrame], from: usize, until: u64) -> usize
     requires { from ≤ length frames.now }
     ensures low { from ≤ result }
     ensures high { result ≤ length frames.now }
-    ensures kept { (k : ℕ) (f : Frame) → from ≤ k → k < result → f ≡ get_or frames.now k f →
+    ensures kept { (k : ℕ) (f : LeftFrame) → from ≤ k → k < result → f ≡ get_or frames.now k f →
         f.time + limits.now.reach ≤ until }
-    ensures cut { (f : Frame) → result < length frames.now → f ≡ get_or frames.now result f →
+    ensures cut { (f : LeftFrame) → result < length frames.now → f ≡ get_or frames.now result f →
         until < f.time + limits.now.reach }
 {
     for place in from..frames.len() {
@@ -43,7 +43,7 @@ fn kept_until(limits: &Limits, frames: &[Frame], from: usize, until: u64) -> usi
 }
 
 /// Before the first event no state is known.
-fn known_states(held: &mut Vec<Held>, is_started: bool)
+fn known_states(held: &mut Vec<StreamState>, is_started: bool)
     ensures { held.new.items ≡ (if is_started then held.old.items else []) }
 {
     if !is_started {
@@ -52,7 +52,7 @@ fn known_states(held: &mut Vec<Held>, is_started: bool)
 }
 
 /// The least number that waits in one of these states; without states 0.
-fn least_waiting(held: &[Held]) -> u64
+fn least_waiting(held: &[StreamState]) -> u64
     ensures { (ys : List Gone) → result ≡ least_of (map (state_of ys) held.now) }
 {
     if held.is_empty() {

@@ -16,8 +16,8 @@ ghost use Rattle.afdx_conform.specs.Streams.{Terms, is_begun as is_begun_by};
 use crate::bounds::Bounds;
 use crate::leeway::Leeway;
 use crate::levels::{Levels, Rates};
-use crate::limits::{Frame, Limits};
-use crate::states::Held;
+use crate::limits::{LeftFrame, Limits};
+use crate::states::StreamState;
 use std::alloc::{AllocError, Global};
 
 /// What is known of the account before the first arrival.
@@ -37,7 +37,7 @@ fn first_levels(rates: &Rates, by: &Leeway) -> Levels
 }
 
 /// Whether the frame may be of an arrival before the start.
-fn is_begun(limits: &Limits, by: &Leeway, frame: &Frame) -> bool
+fn is_begun(limits: &Limits, by: &Leeway, frame: &LeftFrame) -> bool
     ensures { (z : Terms) → AreLimits z limits.now → z.by ≡ leeway_of by.now →
         result ≡ is_begun_by z (gone_of frame.now) }
 {
@@ -55,8 +55,8 @@ pub(crate) fn first_held(
     alloc: Global,
     bounds: &Bounds,
     by: &Leeway,
-    frames: &[Frame],
-) -> Result<Vec<Held>, AllocError>
+    frames: &[LeftFrame],
+) -> Result<Vec<StreamState>, AllocError>
     ensures defined { (z : Terms) → AreBounds z bounds.now → z.by ≡ leeway_of by.now →
         IfOk result (λ out. map (state_of (map gone_of frames.now)) out.items
         ≡ first_states z (first_levels_of (link z) z.by z.by.start) (map gone_of frames.now)) }
@@ -64,7 +64,7 @@ pub(crate) fn first_held(
         All (λ h. IsWithin bounds.now.rates (length frames.now) 0 h) out.items) }
 {
     let levels = first_levels(&bounds.rates, by);
-    let first = Held {
+    let first = StreamState {
         passed: 0,
         levels,
         waiting: 0,
@@ -72,7 +72,7 @@ pub(crate) fn first_held(
     let mut out = Vec::from_slice(alloc, &[first])?;
     for place in 0..frames.len() {
         if is_begun(&bounds.limits, by, &frames[place]) {
-            out.push(Held {
+            out.push(StreamState {
                 passed: place + 1,
                 levels,
                 waiting: 0,

@@ -11,14 +11,14 @@ ghost use Rattle.afdx_conform.specs.Holding.{AreArrivals, AreAsked, IsLean, IsTo
 ghost use Rattle.afdx_conform.specs.Holding.{KeepsArrivals, KeepsFrames};
 ghost use Rattle.afdx_conform.specs.States.{Event};
 ghost use Rattle.afdx_conform.specs.Streams.{Gone, Terms};
-ghost use Rattle.afdx_conform.specs.declared.states.Held.{Held};
+ghost use Rattle.afdx_conform.specs.declared.states.StreamState.{StreamState};
 
 use crate::arrived::Arrived;
 use crate::growth::Growth;
 use crate::known_bytes::KnownBytes;
-use crate::limits::{Frame, Limits};
+use crate::limits::{LeftFrame, Limits};
 use crate::spare::Spare;
-use crate::states::Held;
+use crate::states::StreamState;
 
 /// Lets go of the first `count` items.
 pub(crate) fn forget_first<T: Drop>(items: &mut Vec<T>, count: usize)
@@ -46,7 +46,7 @@ impl HasBytes for Arrived {
     }
 }
 
-impl HasBytes for Frame {
+impl HasBytes for LeftFrame {
     fn give_back(self, spare: &mut Spare) {
         self.bytes.give_back(spare);
     }
@@ -66,10 +66,10 @@ fn give_back_first<T: HasBytes>(items: &mut Vec<T>, count: usize, spare: &mut Sp
 }
 
 /// The fewest frames that are explained in one of the states; without states `none`.
-fn fewest_passed(held: &[Held], none: usize) -> usize
+fn fewest_passed(held: &[StreamState], none: usize) -> usize
     ensures least { All (λ h. result ≤ h.passed) held.now }
     ensures among { ((held.now ≡ []) × (result ≡ none))
-        ⊎ ((h : Held) × Contains held.now h × (h.passed ≡ result)) }
+        ⊎ ((h : StreamState) × Contains held.now h × (h.passed ≡ result)) }
 {
     match held.iter().min_by_key(|state| state.passed) {
         Some(state) => state.passed,
@@ -78,7 +78,7 @@ fn fewest_passed(held: &[Held], none: usize) -> usize
 }
 
 /// How many frames, of `most` at most, are explained in each state.
-pub(crate) fn passed_by_all(held: &[Held], most: usize) -> usize
+pub(crate) fn passed_by_all(held: &[StreamState], most: usize) -> usize
     ensures most { result ≤ most }
     ensures all { All (λ h. result ≤ h.passed) held.now }
     ensures whole { All (λ h. most ≤ h.passed) held.now → result ≡ most }
@@ -87,7 +87,7 @@ pub(crate) fn passed_by_all(held: &[Held], most: usize) -> usize
 }
 
 /// The same states, where the first `count` frames are forgotten.
-fn without_first(held: &mut Vec<Held>, count: usize)
+fn without_first(held: &mut Vec<StreamState>, count: usize)
     ensures { held.new.items ≡ map (λ h. past (h.passed - count) h) held.old.items }
 {
     for place in 0..held.len() {
@@ -96,14 +96,14 @@ fn without_first(held: &mut Vec<Held>, count: usize)
 }
 
 /// Whether none of these waits.
-fn none_waits(held: &[Held]) -> bool
+fn none_waits(held: &[StreamState]) -> bool
     ensures { result ≡ list_all (λ h. nat_eq h.waiting 0) held.now }
 {
     held.iter().all(|state| state.waiting == 0)
 }
 
 /// Whether the frame left early enough to be of the arrival.
-fn is_in_time(limits: &Limits, arrived: &Arrived, frame: &Frame) -> bool
+fn is_in_time(limits: &Limits, arrived: &Arrived, frame: &LeftFrame) -> bool
     ensures { IsTrue result ↔ (frame.now.time
         ≤ arrived.now.time + limits.now.latency + limits.now.reach) }
 {
@@ -117,7 +117,7 @@ fn count_early(
     arrivals: &[Arrived],
     from: usize,
     past: usize,
-    frame: &Frame,
+    frame: &LeftFrame,
 ) -> usize
     requires from { from ≤ past }
     requires past { past ≤ length arrivals.now }
@@ -144,7 +144,7 @@ impl Growth {
         ensures within { result ≤ length self.now.judging.marks.items }
         ensures half { 0 < result → length self.now.arrivals.items ≤ 2 * result }
         ensures waits { 0 < result → All (λ h. h.waiting ≡ 0) self.now.judging.held.items }
-        ensures early { (a : Arrived) (f : Frame) → 0 < result →
+        ensures early { (a : Arrived) (f : LeftFrame) → 0 < result →
             passed < length self.now.frames.items →
             a ≡ get_or self.now.arrivals.items (result - 1) a →
             f ≡ get_or self.now.frames.items passed f → IsTooEarly self.now.bounds.limits a f }
@@ -205,7 +205,7 @@ impl Growth {
         requires sound { IsSound self.old }
         requires over { count ≤ length self.old.judging.marks.items }
         requires waits { All (λ h. h.waiting ≡ 0) self.old.judging.held.items }
-        requires early { (a : Arrived) (f : Frame) → 0 < count →
+        requires early { (a : Arrived) (f : LeftFrame) → 0 < count →
             0 < length self.old.frames.items →
             a ≡ get_or self.old.arrivals.items (count - 1) a →
             f ≡ get_or self.old.frames.items 0 f → IsTooEarly self.old.bounds.limits a f }

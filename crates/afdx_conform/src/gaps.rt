@@ -7,7 +7,7 @@ ghost use Rattle.afdx_conform.specs.Naming.{AreGaps, IsGap, is_wanted as is_want
 
 use crate::arrived::Arrived;
 use crate::finding::Mark;
-use crate::limits::Frame;
+use crate::limits::LeftFrame;
 use crate::naming::is_to_name;
 use crate::places::no_less;
 use std::alloc::{AllocError, Global};
@@ -124,7 +124,11 @@ pub(crate) fn unknown_all(alloc: Global, count: usize) -> Result<Vec<Gaps>, Allo
 }
 
 /// The first of these places, if the arrival there has the frame's bytes.
-pub(crate) fn first_alike(arrivals: &[Arrived], places: &[usize], frame: &Frame) -> Option<usize>
+pub(crate) fn first_alike(
+    arrivals: &[Arrived],
+    places: &[usize],
+    frame: &LeftFrame,
+) -> Option<usize>
     ensures { IfSome result (λ first. (a : Arrived) →
         has_bytes frame.now.bytes (get_or arrivals.now first a) ≡ true) }
 {

@@ -22,7 +22,7 @@ use crate::bounds::Bounds;
 use crate::judging::Judging;
 use crate::known_bytes::KnownBytes;
 use crate::leeway::Leeway;
-use crate::limits::Frame;
+use crate::limits::LeftFrame;
 use afdx_police::LinkRule;
 use std::alloc::{AllocError, Global};
 
@@ -46,7 +46,7 @@ pub(crate) struct Growth {
     pub(crate) by: Leeway,
     pub(crate) arrivals: Vec<Arrived>,
     pub(crate) known: KnownBytes,
-    pub(crate) frames: Vec<Frame>,
+    pub(crate) frames: Vec<LeftFrame>,
     pub(crate) judging: Judging,
     pub(crate) closed: usize,
     pub(crate) closing: usize,
@@ -140,7 +140,7 @@ impl Growth {
 
     /// One more frame; if there are too many, nothing is judged any more. Fails only out of
     /// memory; then nothing has changed.
-    pub(crate) fn add_frame(&mut self, frame: Frame) -> Result<(), AllocError>
+    pub(crate) fn add_frame(&mut self, frame: LeftFrame) -> Result<(), AllocError>
         requires sound { IsSound self.old }
         ensures sound { IsSound self.new }
         ensures after { (z : Terms) (xs : List Arrival) (ys : List Gone) (time : ℕ)

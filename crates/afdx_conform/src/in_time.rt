@@ -5,7 +5,7 @@ ghost use Rattle.std.specs.Prelude.{get_or, length};
 ghost use Rattle.afdx_conform.specs.KnownBytes.{GoByTime, StandAt, has_bytes, may_fit};
 
 use crate::arrived::Arrived;
-use crate::limits::{Frame, Limits};
+use crate::limits::{LeftFrame, Limits};
 use crate::places::{less, no_less};
 
 /// More bytes than any arrival has.
@@ -41,7 +41,7 @@ pub(crate) fn comes_behind(arrivals: &[Arrived], arrived: &Arrived) -> bool
 }
 
 /// So many of the first arrivals came too early for the frame.
-pub(crate) fn count_early(limits: &Limits, arrivals: &[Arrived], frame: &Frame) -> usize
+pub(crate) fn count_early(limits: &Limits, arrivals: &[Arrived], frame: &LeftFrame) -> usize
     requires { GoByTime arrivals.now }
     ensures { (i : ℕ) (a : Arrived) → i < result →
         may_fit limits.now frame.now (get_or arrivals.now i a) ≡ false }
@@ -54,7 +54,7 @@ pub(crate) fn count_early(limits: &Limits, arrivals: &[Arrived], frame: &Frame) 
 }
 
 /// Those behind so many arrivals came too late for the frame.
-fn count_until(limits: &Limits, arrivals: &[Arrived], frame: &Frame) -> usize
+fn count_until(limits: &Limits, arrivals: &[Arrived], frame: &LeftFrame) -> usize
     requires { GoByTime arrivals.now }
     ensures { (i : ℕ) (a : Arrived) → result ≤ i → i < length arrivals.now →
         may_fit limits.now frame.now (get_or arrivals.now i a) ≡ false }
@@ -74,7 +74,7 @@ pub(crate) fn in_time<'a>(
     limits: &Limits,
     arrivals: &[Arrived],
     places: &'a [usize],
-    frame: &Frame,
+    frame: &LeftFrame,
 ) -> &'a [usize]
     requires order { GoByTime arrivals.now }
     requires places { StandAt (has_bytes frame.now.bytes) 0 arrivals.now places.now }

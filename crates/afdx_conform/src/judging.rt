@@ -12,8 +12,8 @@ use crate::finding::{Finding, Mark};
 use crate::fronts::{front_of, lead_past};
 use crate::known_bytes::KnownBytes;
 use crate::naming::unexplained_all;
-use crate::recorded::Recorded;
-use crate::states::{Held, close};
+use crate::recorded::StreamRecord;
+use crate::states::{StreamState, close};
 use std::alloc::{AllocError, Global};
 
 /// How far a stream is judged: its states, what is known of the arrivals whose events are over, how
@@ -21,14 +21,14 @@ use std::alloc::{AllocError, Global};
 /// where on nothing is judged.
 #[derive(Debug, Drop)]
 pub(crate) struct Judging {
-    pub held: Vec<Held>,
+    pub held: Vec<StreamState>,
     pub marks: Vec<Mark>,
     pub uncertain: u64,
     pub is_unsure: bool,
 }
 
 /// Whether so many frames, or more, are explained in one of the states.
-fn is_one_passed(held: &[Held], passed: usize) -> bool
+fn is_one_passed(held: &[StreamState], passed: usize) -> bool
     ensures { result ≡ list_any (λ h. nat_le passed h.passed) held.now }
 {
     held.iter().any(|state| passed <= state.passed)
@@ -42,7 +42,7 @@ fn skip(
     alloc: Global,
     bounds: &Bounds,
     known: &mut KnownBytes,
-    recorded: &Recorded<'_>,
+    recorded: &StreamRecord<'_>,
     closed: usize,
 ) -> Result<Vec<Finding>, AllocError>
     requires marks { length judging.old.marks.items ≤ length recorded.now.arrivals.now }
@@ -70,7 +70,7 @@ fn skip(
     let lead = lead_past(alloc, judging.held.as_slice(), front, closed)?;
     let each = known.each(arrivals)?;
     let mut found = Vec::with_capacity(alloc, frames.len())?;
-    let passed = Recorded { arrivals, frames };
+    let passed = StreamRecord { arrivals, frames };
     unexplained_all(
         &bounds.limits,
         known,
@@ -90,7 +90,7 @@ pub(crate) fn close_with(
     alloc: Global,
     bounds: &Bounds,
     known: &mut KnownBytes,
-    recorded: &Recorded<'_>,
+    recorded: &StreamRecord<'_>,
     closed: usize,
 ) -> Result<Vec<Finding>, AllocError>
     requires marks { length judging.old.marks.items ≤ length recorded.now.arrivals.now }

@@ -11,7 +11,7 @@ use crate::by_bytes::ByBytes;
 use crate::finding::Mark;
 use crate::gaps::{Gaps, first_alike, next_gaps, unknown_all, unknown_gaps};
 use crate::in_time::{comes_behind, count_early, go_by_time, in_time};
-use crate::limits::{Frame, Limits};
+use crate::limits::{LeftFrame, Limits};
 use std::alloc::{AllocError, Global};
 
 /// Of fewer arrivals each is looked at.
@@ -150,7 +150,7 @@ impl KnownBytes {
         &'a self,
         limits: &Limits,
         arrivals: &[Arrived],
-        frame: &Frame,
+        frame: &LeftFrame,
         each: &'a [usize],
     ) -> &'a [usize]
         requires known { AreKnown self.now arrivals.now }
@@ -172,7 +172,7 @@ impl KnownBytes {
         limits: &Limits,
         arrivals: &[Arrived],
         marks: &[Mark],
-        frame: &Frame,
+        frame: &LeftFrame,
     ) -> Gaps
         requires marks { length marks.now ≤ length arrivals.now }
         requires known { AreKnown self.old arrivals.now }

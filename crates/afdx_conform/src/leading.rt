@@ -22,12 +22,12 @@ use crate::bounds::Bounds;
 use crate::cases::cases_of;
 use crate::coming::Coming;
 use crate::levels::{Levels, Rates};
-use crate::limits::Frame;
-use crate::states::{Held, lead_all};
+use crate::limits::LeftFrame;
+use crate::states::{StreamState, lead_all};
 use std::alloc::{AllocError, Global};
 
 /// The state that there is, if there is just one.
-fn only(accepted: Option<Held>, refused: Option<Held>) -> Option<Held>
+fn only(accepted: Option<StreamState>, refused: Option<StreamState>) -> Option<StreamState>
     ensures { IfSome result (λ h. option_to_list accepted ++ option_to_list refused ≡ h ∷ []) }
 {
     match accepted {
@@ -40,7 +40,12 @@ fn only(accepted: Option<Held>, refused: Option<Held>) -> Option<Held>
 }
 
 /// The state to which an arrival leads from this one, if it leads to one alone.
-fn led_one(bounds: &Bounds, state: Held, frames: &[Frame], coming: &Coming<'_>) -> Option<Held>
+fn led_one(
+    bounds: &Bounds,
+    state: StreamState,
+    frames: &[LeftFrame],
+    coming: &Coming<'_>,
+) -> Option<StreamState>
     requires { IsSmall bounds.now.rates state }
     ensures defined { (z : Terms) (last : ℕ) →
         AreBounds z bounds.now → IsCharged z coming.now.arrived.now → ComesAt z last coming.now →
@@ -65,10 +70,10 @@ fn led_one(bounds: &Bounds, state: Held, frames: &[Frame], coming: &Coming<'_>) 
 /// The state to which an arrival leads, where there is one state and it leads to one alone.
 pub(crate) fn led_alone(
     bounds: &Bounds,
-    held: &[Held],
-    frames: &[Frame],
+    held: &[StreamState],
+    frames: &[LeftFrame],
     coming: &Coming<'_>,
-) -> Option<Held>
+) -> Option<StreamState>
     requires { All (λ h. IsSmall bounds.now.rates h) held.now }
     ensures alone { IfSome result (λ h. length held.now ≡ 1) }
     ensures defined { (z : Terms) (last : ℕ) →
@@ -91,10 +96,10 @@ pub(crate) fn led_alone(
 pub(crate) fn led_from(
     alloc: Global,
     bounds: &Bounds,
-    held: &[Held],
-    frames: &[Frame],
+    held: &[StreamState],
+    frames: &[LeftFrame],
     coming: &Coming<'_>,
-) -> Result<Vec<Held>, AllocError>
+) -> Result<Vec<StreamState>, AllocError>
     requires { All (λ h. IsSmall bounds.now.rates h) held.now }
     ensures defined { (z : Terms) (last : ℕ) →
         AreBounds z bounds.now → IsCharged z coming.now.arrived.now → ComesAt z last coming.now →
@@ -137,10 +142,10 @@ fn charged_with_room(rates: &Rates, levels: Levels, charge: u64) -> Levels
 pub(crate) fn accept_all(
     alloc: Global,
     rates: &Rates,
-    held: &[Held],
+    held: &[StreamState],
     arrived: &Arrived,
     ns: u64,
-) -> Result<Vec<Held>, AllocError>
+) -> Result<Vec<StreamState>, AllocError>
     requires { All (λ h. AreLevels rates.now h.levels) held.now }
     ensures defined { AreAccepted (λ done. IfOk result (λ out. done out.items)) rates.now
         arrived.now ns held.now }
@@ -153,7 +158,7 @@ pub(crate) fn accept_all(
     for state in held {
         let levels = rates.later(state.levels, ns);
         let levels = charged_with_room(rates, levels, arrived.charge);
-        out.push(Held { levels, ..*state })?;
+        out.push(StreamState { levels, ..*state })?;
     }
     Ok(out)
 }

@@ -10,7 +10,6 @@ ghost use Rattle.afdx_conform.specs.LeewayOf.{leeway_of};
 ghost use Rattle.afdx_conform.specs.Levels as spec;
 
 use crate::leeway::{Leeway, PARTS};
-use afdx_frame::WIRE_EXTRA;
 use afdx_police::LinkRule;
 
 /// What is missing in an account at least, and at most, in millionths of a byte times a nanosecond.
@@ -45,8 +44,8 @@ impl Rates {
     pub fn new(rule: &LinkRule, by: &Leeway) -> Rates
         ensures { AreRates (regulation_of (rule_of rule.now)) (leeway_of by.now) result }
     {
-        let smax = rule.lmax + WIRE_EXTRA;
-        let fill_ns = 1_000_000 * rule.bag_ms + 1000 * rule.jitter_us;
+        let smax = rule.smax();
+        let fill_ns = rule.fill_time();
         let fastest = smax * (PARTS + by.drift);
         let slowest = smax * (PARTS - by.drift);
         let slip = by.slack + by.slack + by.asked;

@@ -45,6 +45,6 @@ pub use checked_bytes::CheckedBytes;
 pub use counts::Counts;
 pub use finding::{Finding, Strangeness};
 pub use leeway::Leeway;
-pub use limits::Frame;
+pub use limits::LeftFrame;
 pub use spare::Spare;
 pub use streaming::Stream;

@@ -16,7 +16,7 @@ use crate::states::NextFrame;
 
 /// A frame that left: its number, the time of its last bit in ns, its bytes.
 #[derive(Debug, Drop)]
-pub struct Frame {
+pub struct LeftFrame {
     pub number: u64,
     pub time: u64,
     pub bytes: CheckedBytes,
@@ -67,7 +67,7 @@ impl Limits {
     }
 
     /// Whether the frame may be what the switch made of an arrival of these bytes at this time.
-    pub fn fits(&self, time: u64, bytes: &CheckedBytes, frame: &Frame) -> bool
+    pub fn fits(&self, time: u64, bytes: &CheckedBytes, frame: &LeftFrame) -> bool
         requires time { time ≤ latest_listed }
         requires bytes { length bytes.now ≤ most_bytes }
         ensures { (z : Terms) (x : Arrival) → AreLimits z self.now →
@@ -89,7 +89,7 @@ impl Limits {
         &self,
         time: u64,
         bytes: &CheckedBytes,
-        frames: &[Frame],
+        frames: &[LeftFrame],
         passed: usize,
         is_open: bool,
     ) -> NextFrame

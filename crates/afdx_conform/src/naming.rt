@@ -20,9 +20,9 @@ use crate::checked_bytes::CheckedBytes;
 use crate::finding::{Finding, Mark, Strangeness};
 use crate::gaps::Gaps;
 use crate::known_bytes::KnownBytes;
-use crate::limits::{Frame, Limits};
+use crate::limits::{LeftFrame, Limits};
 use crate::places::no_less;
-use crate::recorded::Recorded;
+use crate::recorded::StreamRecord;
 use afdx_frame::{GREATEST_FRAME, LEAST_FRAME};
 use afdx_police::Reason;
 
@@ -34,7 +34,7 @@ pub(crate) fn is_to_name(mark: Mark) -> bool
 }
 
 /// The reason by which the finding of a frame may name the arrival.
-fn names_it(limits: &Limits, arrived: &Arrived, mark: Mark, frame: &Frame) -> Option<Reason>
+fn names_it(limits: &Limits, arrived: &Arrived, mark: Mark, frame: &LeftFrame) -> Option<Reason>
     ensures { (z : Terms) → AreLimits z limits.now →
         result ≡ may_name z (gone_of frame.now) (marked_of arrived.now mark) }
 {
@@ -53,7 +53,7 @@ fn first_place(
     marks: &[Mark],
     settled: usize,
     places: &[usize],
-    frame: &Frame,
+    frame: &LeftFrame,
 ) -> Option<(usize, Reason)>
     requires marks { length marks.now ≤ length arrivals.now }
     requires settled { NoneIsWanted ToName limits.now frame.now settled arrivals.now marks.now }
@@ -77,7 +77,7 @@ fn first_place(
 }
 
 /// Whether the frame fits the arrival, which isn't refused.
-fn fits_without_mark(limits: &Limits, arrived: &Arrived, mark: Mark, frame: &Frame) -> bool
+fn fits_without_mark(limits: &Limits, arrived: &Arrived, mark: Mark, frame: &LeftFrame) -> bool
     ensures { (z : Terms) → AreLimits z limits.now →
         result ≡ is_of_right z (gone_of frame.now) (marked_of arrived.now mark) }
 {
@@ -92,7 +92,7 @@ fn fits_unmarked(
     marks: &[Mark],
     settled: usize,
     places: &[usize],
-    frame: &Frame,
+    frame: &LeftFrame,
 ) -> bool
     requires marks { length marks.now ≤ length arrivals.now }
     requires settled { NoneIsWanted Accepted limits.now frame.now settled arrivals.now marks.now }
@@ -136,7 +136,7 @@ fn strangeness(
     marks: &[Mark],
     settled: usize,
     places: &[usize],
-    frame: &Frame,
+    frame: &LeftFrame,
 ) -> Strangeness
     requires marks { length marks.now ≤ length arrivals.now }
     requires settled { NoneIsWanted Accepted limits.now frame.now settled arrivals.now marks.now }
@@ -165,7 +165,7 @@ pub(crate) fn unexplained(
     marks: &mut Vec<Mark>,
     gaps: Gaps,
     places: &[usize],
-    frame: &Frame,
+    frame: &LeftFrame,
 ) -> Finding
     requires marks { length marks.old.items ≤ length arrivals.now }
     requires to_name { NoneIsWanted ToName limits.now frame.now gaps.to_name.to arrivals.now
@@ -208,7 +208,7 @@ pub(crate) fn unexplained(
 pub(crate) fn unexplained_all(
     limits: &Limits,
     known: &mut KnownBytes,
-    recorded: &Recorded<'_>,
+    recorded: &StreamRecord<'_>,
     each: &[usize],
     marks: &mut Vec<Mark>,
     found: &mut Vec<Finding>,

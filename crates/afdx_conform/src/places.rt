@@ -11,17 +11,17 @@ use std::collections::BTreeMap;
 
 /// Places in a list, by the keys of what stands there.
 #[derive(Drop)]
-pub(crate) struct Places {
+pub(crate) struct KeyPlaces {
     alloc: Global,
     by_key: BTreeMap<Vec<u8>, Vec<usize>>,
 }
 
-impl Places {
+impl KeyPlaces {
     /// None yet.
-    pub(crate) fn new(alloc: Global) -> Places
+    pub(crate) fn new(alloc: Global) -> KeyPlaces
         ensures { (key : List ℕ) → kept_at result key ≡ [] }
     {
-        Places {
+        KeyPlaces {
             alloc,
             by_key: BTreeMap::new(alloc),
         }

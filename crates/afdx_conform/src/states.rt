@@ -44,16 +44,16 @@ pub(crate) enum NextFrame {
 /// A state: how many frames are explained, the account's levels at the last arrival, how many
 /// accepted arrivals wait for a frame.
 #[derive(Clone, Copy, Debug, PartialEq, Eq)]
-pub(crate) struct Held {
+pub(crate) struct StreamState {
     pub passed: usize,
     pub levels: Levels,
     pub waiting: u64,
 }
 
-impl Held {
+impl StreamState {
     /// Whether it allows all that another state does, with no more arrivals that wait.
     #[tactic(auto, unfolding(crate::specs::HeldStates::outdoes))]
-    fn outdoes(&self, other: &Held) -> bool
+    fn outdoes(&self, other: &StreamState) -> bool
         ensures { result ≡ outdoes self.now other.now }
     {
         self.passed == other.passed
@@ -63,7 +63,7 @@ impl Held {
     }
 
     /// The state once an arrival is accepted, which leaves these levels, if it can be.
-    fn accepted(self, levels: Levels, next: NextFrame) -> Option<Held>
+    fn accepted(self, levels: Levels, next: NextFrame) -> Option<StreamState>
         requires passed { self.passed < most_held }
         requires waiting { self.waiting < most_held }
         ensures defined { (z : Terms) (x : Arrival) (ys : List Gone) →
@@ -77,12 +77,12 @@ impl Held {
             IfSome result (λ h. h.passed ≤ frames) }
     {
         match next {
-            NextFrame::Fits => Some(Held {
+            NextFrame::Fits => Some(StreamState {
                 passed: self.passed + 1,
                 levels,
                 waiting: self.waiting,
             }),
-            NextFrame::Open => Some(Held {
+            NextFrame::Open => Some(StreamState {
                 passed: self.passed,
                 levels,
                 waiting: self.waiting + 1,
@@ -99,7 +99,7 @@ impl Held {
         levels: Levels,
         charge: u64,
         next: NextFrame,
-    ) -> Option<Held>
+    ) -> Option<StreamState>
         requires passed { self.passed < most_held }
         requires waiting { self.waiting < most_held }
         requires cost { charge ≤ most_charge }
@@ -123,7 +123,7 @@ impl Held {
     }
 
     /// The state once an arrival of this charge is refused, if it may have had no room.
-    fn if_refused(self, rates: &Rates, levels: Levels, charge: u64) -> Option<Held>
+    fn if_refused(self, rates: &Rates, levels: Levels, charge: u64) -> Option<StreamState>
         requires cost { charge ≤ most_charge }
         requires some { 0 < charge }
         requires bounded { AreLevels rates.now levels }
@@ -139,7 +139,7 @@ impl Held {
         if rates.has_to_pass(levels, charge) {
             None
         } else {
-            Some(Held {
+            Some(StreamState {
                 passed: self.passed,
                 levels: rates.refused(levels, charge),
                 waiting: self.waiting,
@@ -154,7 +154,7 @@ impl Held {
         levels: Levels,
         charge: u64,
         next: NextFrame,
-    ) -> (Option<Held>, Option<Held>)
+    ) -> (Option<StreamState>, Option<StreamState>)
         requires passed { self.passed < most_held }
         requires waiting { self.waiting < most_held }
         requires cost { charge ≤ most_charge }
@@ -182,12 +182,12 @@ impl Held {
 /// A state, and what stands next in it.
 #[derive(Clone, Copy, Debug, PartialEq, Eq)]
 pub(crate) struct Case {
-    pub held: Held,
+    pub held: StreamState,
     pub next: NextFrame,
 }
 
 /// Puts a state behind others, if there is one.
-fn push_some(out: &mut Vec<Held>, held: Option<Held>) -> Result<(), AllocError>
+fn push_some(out: &mut Vec<StreamState>, held: Option<StreamState>) -> Result<(), AllocError>
     ensures { OnOk result (out.new.items ≡ out.old.items ++ option_to_list held) }
 {
     if let Some(held) = held {
@@ -204,7 +204,7 @@ pub(crate) fn lead_all(
     cases: &[Case],
     ns: u64,
     charge: u64,
-) -> Result<Vec<Held>, AllocError>
+) -> Result<Vec<StreamState>, AllocError>
     requires cost { charge ≤ most_charge }
     requires some { 0 < charge }
     requires small { All (λ c. IsSmall rates.now c.held) cases.now }
@@ -232,7 +232,7 @@ pub(crate) fn lead_all(
 }
 
 /// Closes the first `passed` frames: leaves the states in which so many, or more, are explained.
-pub(crate) fn close(held: &mut Vec<Held>, passed: usize)
+pub(crate) fn close(held: &mut Vec<StreamState>, passed: usize)
     ensures left { (ys : List Gone) (time : ℕ) → AreClosed time passed ys →
         map (state_of ys) held.new.items
         ≡ kept (λ s. are_behind time s.rest) (map (state_of ys) held.old.items) }
@@ -248,14 +248,14 @@ pub(crate) fn close(held: &mut Vec<Held>, passed: usize)
 }
 
 /// Whether one of these outdoes a state.
-fn is_outdone(held: &[Held], state: Held) -> bool
+fn is_outdone(held: &[StreamState], state: StreamState) -> bool
     ensures { result ≡ list_any (λ x. outdoes x state) held.now }
 {
     held.iter().any(|one| one.outdoes(&state))
 }
 
 /// Keeps one more where none outdoes it, in place of those that it outdoes.
-fn keep(held: &mut Vec<Held>, state: Held) -> Result<(), AllocError>
+fn keep(held: &mut Vec<StreamState>, state: StreamState) -> Result<(), AllocError>
     ensures { OnOk result (held.new.items ≡ kept_with state held.old.items) }
 {
     if is_outdone(held.as_slice(), state) {
@@ -268,7 +268,7 @@ fn keep(held: &mut Vec<Held>, state: Held) -> Result<(), AllocError>
 
 /// Of these states those that no other outdoes, each held against all that are kept. Fails only out
 /// of memory.
-fn thinned_plainly(alloc: Global, held: &[Held]) -> Result<Vec<Held>, AllocError>
+fn thinned_plainly(alloc: Global, held: &[StreamState]) -> Result<Vec<StreamState>, AllocError>
     ensures enough { (ys : List Gone) → IfOk result (λ out.
         AreEnough (map (state_of ys) held.now) (map (state_of ys) out.items)) }
     ensures defined { (ys : List Gone) → All (λ h. h.passed ≤ length ys) held.now →
@@ -287,7 +287,7 @@ fn thinned_plainly(alloc: Global, held: &[Held]) -> Result<Vec<Held>, AllocError
 }
 
 /// How many of the first of these states have fewer frames explained than `bound`.
-fn count_below(held: &[Held], bound: usize) -> usize
+fn count_below(held: &[StreamState], bound: usize) -> usize
     ensures within { result ≤ length held.now }
     ensures below { AllByRecursion (λ h. h.passed < bound) (take result held.now) }
 {
@@ -300,7 +300,11 @@ fn count_below(held: &[Held], bound: usize) -> usize
 
 /// Sets the first of `few` aside, behind `done`, in which fewer frames are explained than `bound`,
 /// once they are half of `few`. Fails only out of memory.
-fn set_aside(done: &mut Vec<Held>, few: &mut Vec<Held>, bound: usize) -> Result<(), AllocError>
+fn set_aside(
+    done: &mut Vec<StreamState>,
+    few: &mut Vec<StreamState>,
+    bound: usize,
+) -> Result<(), AllocError>
     ensures same { OnOk result
         (done.new.items ++ few.new.items ≡ done.old.items ++ few.old.items) }
     ensures below { AllByRecursion (λ h. h.passed < bound) done.old.items →
@@ -316,7 +320,7 @@ fn set_aside(done: &mut Vec<Held>, few: &mut Vec<Held>, bound: usize) -> Result<
 }
 
 /// The least number of frames explained in a state and in those behind it, the first state's last.
-fn least_ahead(alloc: Global, held: &[Held]) -> Result<Vec<usize>, AllocError> {
+fn least_ahead(alloc: Global, held: &[StreamState]) -> Result<Vec<usize>, AllocError> {
     let mut out = Vec::new(alloc);
     let mut least = usize::MAX;
     for place in 0..held.len() {
@@ -328,7 +332,7 @@ fn least_ahead(alloc: Global, held: &[Held]) -> Result<Vec<usize>, AllocError> {
 
 /// Of these states those that no other outdoes, each held against those that are kept and don't
 /// have fewer frames explained than all that are to come. Fails only out of memory.
-fn thinned_in_order(alloc: Global, held: &[Held]) -> Result<Vec<Held>, AllocError>
+fn thinned_in_order(alloc: Global, held: &[StreamState]) -> Result<Vec<StreamState>, AllocError>
     ensures enough { (ys : List Gone) → IfOk result (λ out.
         AreEnough (map (state_of ys) held.now) (map (state_of ys) out.items)) }
     ensures defined { (ys : List Gone) → All (λ h. h.passed ≤ length ys) held.now →
@@ -357,7 +361,7 @@ fn thinned_in_order(alloc: Global, held: &[Held]) -> Result<Vec<Held>, AllocErro
 }
 
 /// Of these states those that no other outdoes. Fails only out of memory.
-pub(crate) fn thinned(alloc: Global, held: &[Held]) -> Result<Vec<Held>, AllocError>
+pub(crate) fn thinned(alloc: Global, held: &[StreamState]) -> Result<Vec<StreamState>, AllocError>
     ensures enough { (ys : List Gone) → IfOk result (λ out.
         AreEnough (map (state_of ys) held.now) (map (state_of ys) out.items)) }
     ensures defined { (ys : List Gone) → All (λ h. h.passed ≤ length ys) held.now →

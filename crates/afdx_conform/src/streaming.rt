@@ -11,7 +11,7 @@ use crate::finding::Finding;
 use crate::growth::Growth;
 use crate::leeway::Leeway;
 use crate::levels::Rates;
-use crate::limits::{Frame, Limits};
+use crate::limits::{LeftFrame, Limits};
 use crate::spare::Spare;
 use afdx_police::LinkRule;
 use std::alloc::{AllocError, Global};
@@ -90,7 +90,7 @@ impl Stream {
 
     /// One more frame left, at a time no earlier than that of any line before. Of 2^56 frames or
     /// more nothing is judged any more. Fails only out of memory; then nothing has changed.
-    pub fn left(&mut self, frame: Frame) -> Result<(), AllocError>
+    pub fn left(&mut self, frame: LeftFrame) -> Result<(), AllocError>
         ensures stands { (z : Terms) (xs : List Arrival) (ys : List Gone) (j : Judged)
             (time : ℕ) → MayLeave z ys time (gone_of frame) → StandsFor z xs ys j time self.old →
             OnOk result (StandsFor z xs (ys ++ gone_of frame ∷ []) j time self.new) }

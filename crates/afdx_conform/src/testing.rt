@@ -11,10 +11,10 @@ ghost use Rattle.afdx_conform.specs.Testing.{may_go, goes_either_way};
 
 use crate::arrived::Arrived;
 use crate::levels::Rates;
-use crate::states::Held;
+use crate::states::StreamState;
 
 /// Whether the arrival may have had room in this state, so many ns after the one before.
-fn may_go_from(rates: &Rates, state: Held, arrived: &Arrived, ns: u64) -> bool
+fn may_go_from(rates: &Rates, state: StreamState, arrived: &Arrived, ns: u64) -> bool
     requires { AreLevels rates.now state.levels }
     ensures { (z : Terms) (ys : List Gone) (last : ℕ) →
         AreRates (link z) z.by rates.now → IsCharged z arrived.now →
@@ -26,7 +26,7 @@ fn may_go_from(rates: &Rates, state: Held, arrived: &Arrived, ns: u64) -> bool
 }
 
 /// Whether it may have had none, too.
-fn goes_both_ways(rates: &Rates, state: Held, arrived: &Arrived, ns: u64) -> bool
+fn goes_both_ways(rates: &Rates, state: StreamState, arrived: &Arrived, ns: u64) -> bool
     requires { AreLevels rates.now state.levels }
     ensures { (z : Terms) (ys : List Gone) (last : ℕ) →
         AreRates (link z) z.by rates.now → IsCharged z arrived.now →
@@ -42,7 +42,7 @@ fn goes_both_ways(rates: &Rates, state: Held, arrived: &Arrived, ns: u64) -> boo
 }
 
 /// Whether the arrival may have had room in one of these states.
-pub(crate) fn may_go_once(rates: &Rates, held: &[Held], arrived: &Arrived, ns: u64) -> bool
+pub(crate) fn may_go_once(rates: &Rates, held: &[StreamState], arrived: &Arrived, ns: u64) -> bool
     requires { All (λ h. AreLevels rates.now h.levels) held.now }
     ensures { (z : Terms) (ys : List Gone) (last : ℕ) →
         AreRates (link z) z.by rates.now → IsCharged z arrived.now →
@@ -58,7 +58,7 @@ pub(crate) fn may_go_once(rates: &Rates, held: &[Held], arrived: &Arrived, ns: u
 }
 
 /// Whether in one of these states both answers were right.
-pub(crate) fn is_uncertain(rates: &Rates, held: &[Held], arrived: &Arrived, ns: u64) -> bool
+pub(crate) fn is_uncertain(rates: &Rates, held: &[StreamState], arrived: &Arrived, ns: u64) -> bool
     requires { All (λ h. AreLevels rates.now h.levels) held.now }
     ensures { (z : Terms) (ys : List Gone) (last : ℕ) →
         AreRates (link z) z.by rates.now → IsCharged z arrived.now →

@@ -6,7 +6,7 @@ ghost use Rattle.afdx_conform.specs.Growing.{IsSound, due_at, due_by};
 
 use crate::arrived::Arrived;
 use crate::growth::Growth;
-use crate::limits::{Frame, Limits};
+use crate::limits::{LeftFrame, Limits};
 
 /// What an event of a stream is: an arrival, or the closing of a frame.
 #[derive(Clone, Copy, Debug, PartialEq, Eq)]
@@ -16,7 +16,7 @@ pub(crate) enum Upcoming {
 }
 
 /// Whether the frame is closed before the arrival comes.
-fn closes_before(limits: &Limits, frame: &Frame, arrived: &Arrived) -> bool
+fn closes_before(limits: &Limits, frame: &LeftFrame, arrived: &Arrived) -> bool
     ensures { IsTrue result ↔ (frame.now.time + limits.now.reach < arrived.now.time) }
 {
     frame.time + limits.reach < arrived.time
@@ -38,14 +38,14 @@ impl Growth {
             × (length self.now.arrivals.items ≤ length self.now.judging.marks.items) }
         ensures arrival { result ≡ Some Upcoming.Arrival →
             length self.now.judging.marks.items < length self.now.arrivals.items }
-        ensures first { (a : Arrived) (f : Frame) → result ≡ Some Upcoming.Arrival →
+        ensures first { (a : Arrived) (f : LeftFrame) → result ≡ Some Upcoming.Arrival →
             self.now.closed < length self.now.frames.items →
             a ≡ get_or self.now.arrivals.items (length self.now.judging.marks.items) a →
             f ≡ get_or self.now.frames.items self.now.closed f →
             a.time ≤ f.time + self.now.bounds.limits.reach }
         ensures closing { result ≡ Some Upcoming.Closing →
             self.now.closed < length self.now.frames.items }
-        ensures before { (a : Arrived) (f : Frame) → result ≡ Some Upcoming.Closing →
+        ensures before { (a : Arrived) (f : LeftFrame) → result ≡ Some Upcoming.Closing →
             length self.now.judging.marks.items < length self.now.arrivals.items →
             a ≡ get_or self.now.arrivals.items (length self.now.judging.marks.items) a →
             f ≡ get_or self.now.frames.items self.now.closed f →

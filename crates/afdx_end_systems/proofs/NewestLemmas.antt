@@ -17,8 +17,8 @@ use Rattle.afdx_comport.specs.Messages.{TimedMessage}
 use Rattle.afdx_comport.specs.Held.{IsRead}
 use Rattle.afdx_comport.specs.Ports.{empty_of, port_at_first, ports_at_first, is_for}
 use Rattle.afdx_comport.specs.Calls.{Put, Take, GiveBack, held_after}
-use Rattle.afdx_comport.specs.declared.held.Held.{Held}
-use Rattle.afdx_comport.specs.declared.held.Held.TheVariants.{Sampling, Queuing}
+use Rattle.afdx_comport.specs.declared.held.PortMemory.{PortMemory}
+use Rattle.afdx_comport.specs.declared.held.PortMemory.TheVariants.{Sampling, Queuing}
 use Rattle.afdx_comport.specs.declared.com_ports.ComPort.{ComPort}
 use Rattle.afdx_comport.proofs.HeldLemmas.{put_and_read}
 use Rattle.afdx_end_systems.proofs.SystemsLemmas.{same}
@@ -73,7 +73,7 @@ found_port vl udp place ports port found here =
     (eqb-true port.link.0 vl both.0, eqb-true port.udp udp both.1)
 
 -- what a port holds that was put a message, which was taken out again
-holds_put : (held : Held) (m : TimedMessage) (room : ℕ) → IsRead held
+holds_put : (held : PortMemory) (m : TimedMessage) (room : ℕ) → IsRead held
     → HoldsNewest (Some m) (held_after held (GiveBack room ∷ Take ∷ Put m ∷ []))
 unfolding held_after
 holds_put (Sampling sample) m room all = refl
@@ -90,7 +90,7 @@ module _ (rows : Rows) (system : ℕ) (past : List Arrived) (x : Arrived) where
       (sym (newest_step rows system vl udp x past (Dropped why) is)) (hold vl udp place port found here)
 
   -- nor does a message for another port
-  newest_other : (vl udp link to : ℕ) (payload : List ℕ) (held : Held)
+  newest_other : (vl udp link to : ℕ) (payload : List ℕ) (held : PortMemory)
       → Message link to payload ≡ answer_to rows system past x → (nat_eq link vl && nat_eq to udp) ≡ false
       → HoldsNewest (newest_to rows system vl udp past) held
       → HoldsNewest (newest_to rows system vl udp (x ∷ past)) held

@@ -8,8 +8,8 @@ use Rattle.std.proofs.lemmas.Option.{slice_get-get_or, slice_get_past, slice_get
 use Rattle.afdx_comport.specs.Messages.{TimedMessage}
 use Rattle.afdx_comport.specs.Held.{with_message, without_first, with_spare, read_of, IsRead}
 use Rattle.afdx_comport.specs.Ports.{is_for}
-use Rattle.afdx_comport.specs.declared.held.Held.{Held}
-use Rattle.afdx_comport.specs.declared.held.Held.TheVariants.{Sampling, Queuing}
+use Rattle.afdx_comport.specs.declared.held.PortMemory.{PortMemory}
+use Rattle.afdx_comport.specs.declared.held.PortMemory.TheVariants.{Sampling, Queuing}
 use Rattle.afdx_comport.specs.declared.com_ports.ComPort.{ComPort}
 use Rattle.afdx_comport.specs.Calls.{Put, Take, GiveBack, held_after}
 use Rattle.afdx_comport.proofs.HeldLemmas.{put_and_read}
@@ -55,7 +55,7 @@ read_but_at ports after place port read here now same j other is =
     ]
 
 -- what a port holds of which all was read, once a message was put there and taken out again
-queue_calls : (held : Held) (time : ℕ) (bytes : List ℕ) (room : ℕ) → IsRead held
+queue_calls : (held : PortMemory) (time : ℕ) (bytes : List ℕ) (room : ℕ) → IsRead held
     → with_spare room (without_first (with_message time bytes held))
     ≡ held_after held (GiveBack room ∷ Take ∷ Put (record { time = time; bytes = bytes }) ∷ [])
 unfolding held_after
@@ -64,11 +64,11 @@ queue_calls held time bytes room all =
     (sym (put_and_read held time bytes all).room)
 
 -- its memory is given back
-still_read : (held : Held) (room : ℕ) → IsRead held → IsRead (with_spare room held)
+still_read : (held : PortMemory) (room : ℕ) → IsRead held → IsRead (with_spare room held)
 still_read (Sampling sample) room all = tt
 still_read (Queuing line) room all = all
 
-still_passed : (held : Held) (m : TimedMessage) → IsRead held
+still_passed : (held : PortMemory) (m : TimedMessage) → IsRead held
     → IsRead (held_after held (GiveBack 0 ∷ Take ∷ Put m ∷ []))
 still_passed held m all =
     subst IsRead (queue_calls held m.time m.bytes 0 all)
@@ -105,7 +105,7 @@ are_passed ports place m port here all =
     }
 
 -- what a read gives behind the put
-read_back : (held : Held) (m : TimedMessage) → IsRead held
+read_back : (held : PortMemory) (m : TimedMessage) → IsRead held
     → read_of (held_after held (Put m ∷ [])) ≡ Some m.bytes
 unfolding held_after
 read_back held m all =

@@ -19,7 +19,7 @@ use Rattle.afdx_receive.specs.Redundancy.{wins, winners}
 use Rattle.afdx_comport.specs.Messages.{TimedMessage}
 use Rattle.afdx_comport.specs.Ports.{is_for, ports_at_first}
 use Rattle.afdx_comport.specs.declared.com_ports.ComPort.{ComPort}
-use Rattle.afdx_comport.specs.declared.held.Held.TheVariants.{Sampling}
+use Rattle.afdx_comport.specs.declared.held.PortMemory.TheVariants.{Sampling}
 use Rattle.afdx_end_systems.specs.ReadPorts.{AreRead, AreFound, ReadsBack, HoldNewest, passed_on, passed_at, passed_to}
 use Rattle.afdx_end_systems.specs.ReadPorts.{port_passed, ports_after, MessagesArePassedOn}
 use Rattle.afdx_end_systems.proofs.EndLemmas.{read_at_first, found_at_first}

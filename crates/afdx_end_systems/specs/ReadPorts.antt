@@ -7,8 +7,8 @@ use Rattle.afdx_receive.specs.Arrivals.{Arrived}
 use Rattle.afdx_receive.specs.Answers.{Answer, Message, Dropped, answer_to}
 use Rattle.afdx_comport.specs.Messages.{TimedMessage}
 use Rattle.afdx_comport.specs.declared.com_ports.ComPort.{ComPort}
-use Rattle.afdx_comport.specs.declared.held.Held.{Held}
-use Rattle.afdx_comport.specs.declared.held.Held.TheVariants.{Sampling, Queuing}
+use Rattle.afdx_comport.specs.declared.held.PortMemory.{PortMemory}
+use Rattle.afdx_comport.specs.declared.held.PortMemory.TheVariants.{Sampling, Queuing}
 use Rattle.afdx_comport.specs.Calls.{Put, Take, GiveBack, held_after}
 use Rattle.afdx_comport.specs.Held.{IsRead, read_of}
 use Rattle.afdx_comport.specs.Ports.{is_for, ports_at_first}
@@ -67,7 +67,7 @@ newest_to rows system vl udp (x ∷ past) =
     newer vl udp x.time (answer_to rows system past x) (newest_to rows system vl udp past)
 
 -- a sampling port holds this message; a queuing port holds none
-abbrev pub HoldsNewest : Option TimedMessage → Held → Type 0
+abbrev pub HoldsNewest : Option TimedMessage → PortMemory → Type 0
 HoldsNewest newest (Sampling sample) = sample ≡ newest
 HoldsNewest newest (Queuing line) = line.messages ≡ []
 

@@ -8,9 +8,9 @@ use Rattle.afdx_input_lines.specs.declared.fault.RunFault.{RunFault}
 use Rattle.afdx_input_lines.specs.declared.fault.RunFault.TheVariants as run
 use Rattle.afdx_input_lines.specs.declared.recording_fault.RecordingFault.TheVariants.{Damaged}
 use Rattle.afdx_input_files.specs.declared.block_packet.Placed.{Placed}
-use Rattle.afdx_input_files.specs.declared.block.Head.{Head}
-use Rattle.afdx_input_files.specs.declared.block.Kind.{Kind}
-use Rattle.afdx_input_files.specs.declared.block.Kind.TheVariants as kind
+use Rattle.afdx_input_files.specs.declared.block.BlockHead.{BlockHead}
+use Rattle.afdx_input_files.specs.declared.block.BlockKind.{BlockKind}
+use Rattle.afdx_input_files.specs.declared.block.BlockKind.TheVariants as kind
 use Rattle.afdx_input_files.specs.declared.order.Order.{Order}
 use Rattle.afdx_input_files.specs.Orders.{number_in}
 use Rattle.afdx_input_files.specs.Recordings.{State, Meaning, Wrong, Says, Numbered}
@@ -33,7 +33,7 @@ body_in size xs least within =
     ∙ take-take (size - 12) (size - 8) (drop 8 xs) (omega arith)
 
 -- it ends with its length
-pub block_meaning-whole : (state : State) (xs : List ℕ) (head : Head) → head_by state.order xs ≡ Some head
+pub block_meaning-whole : (state : State) (xs : List ℕ) (head : BlockHead) → head_by state.order xs ≡ Some head
     → 12 ≤ head.size → head.size ≤ length xs → number_in head.order 4 (drop (head.size - 4) xs) ≡ head.size
     → block_meaning state (take head.size xs)
     ≡ kind_meaning head.kind state head.order (take (head.size - 12) (drop 8 xs))
@@ -45,7 +45,7 @@ block_meaning-whole state xs head told least within last =
     (ap (kind_meaning head.kind state head.order) (body_in head.size xs least within))
 
 -- or with another number
-pub block_meaning-torn : (state : State) (xs : List ℕ) (head : Head) → head_by state.order xs ≡ Some head
+pub block_meaning-torn : (state : State) (xs : List ℕ) (head : BlockHead) → head_by state.order xs ≡ Some head
     → 12 ≤ head.size → head.size ≤ length xs → number_in head.order 4 (drop (head.size - 4) xs) ≢ head.size
     → block_meaning state (take head.size xs) ≡ Wrong (Damaged state.numbers)
 unfolding block_meaning
@@ -72,7 +72,7 @@ placed_bytes xs size start count least within fits =
     ∙ ap (λ (k : ℕ). take k (drop (8 + start) xs)) m
 
 -- a block that isn't looked into means the same, whatever its body is
-pub kind_meaning-skipped : (k : Kind) (state : State) (order : Order) (body : List ℕ) → is_held k ≡ false
+pub kind_meaning-skipped : (k : BlockKind) (state : State) (order : Order) (body : List ℕ) → is_held k ≡ false
     → kind_meaning k state order body ≡ kind_meaning k state order []
 kind_meaning-skipped kind.NoFrame state order body h = refl
 kind_meaning-skipped kind.Other state order body h = refl

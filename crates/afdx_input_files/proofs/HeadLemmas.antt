@@ -3,9 +3,9 @@ use Rattle.std.proofs.Common.{◌≡◌, ℕ, ◌+◌, ◌<◌, ◌≤◌, List,
 use Rattle.std.proofs.Common.{refl, ap, ◌∙◌, arith, Some}
 use Rattle.afdx_input_files.specs.declared.order.Order.{Order}
 use Rattle.afdx_input_files.specs.declared.order.Order.TheVariants.{HighFirst}
-use Rattle.afdx_input_files.specs.declared.block.Kind.{Kind}
-use Rattle.afdx_input_files.specs.declared.block.Kind.TheVariants as kind
-use Rattle.afdx_input_files.specs.declared.block.Head.{Head}
+use Rattle.afdx_input_files.specs.declared.block.BlockKind.{BlockKind}
+use Rattle.afdx_input_files.specs.declared.block.BlockKind.TheVariants as kind
+use Rattle.afdx_input_files.specs.declared.block.BlockHead.{BlockHead}
 use Rattle.afdx_input_files.specs.Orders.{number_in}
 use Rattle.afdx_input_files.specs.Recordings.{State, most_numbers}
 use Rattle.afdx_input_files.specs.Blocks.{kind_of, least_of, order_by, is_ordered, head_of_kind, head_by}
@@ -18,7 +18,7 @@ abbrev AgreeAtHead : List ℕ → List ℕ → Type 0
 AgreeAtHead xs ys = (order : Order) (place : ℕ) → place + 4 ≤ 12
     → number_in order 4 (drop place xs) ≡ number_in order 4 (drop place ys)
 
-order_by-same : (k : Kind) (before : Order) (xs ys : List ℕ) → AgreeAtHead xs ys
+order_by-same : (k : BlockKind) (before : Order) (xs ys : List ℕ) → AgreeAtHead xs ys
     → order_by k before xs ≡ order_by k before ys
 order_by-same kind.Section before xs ys h = rw (h HighFirst 8 (omega arith)) refl
 order_by-same kind.Interface before xs ys h = refl
@@ -29,7 +29,7 @@ order_by-same kind.Packet before xs ys h = refl
 order_by-same kind.NoFrame before xs ys h = refl
 order_by-same kind.Other before xs ys h = refl
 
-is_ordered-same : (k : Kind) (order : Order) (xs ys : List ℕ) → AgreeAtHead xs ys
+is_ordered-same : (k : BlockKind) (order : Order) (xs ys : List ℕ) → AgreeAtHead xs ys
     → is_ordered k order xs ≡ is_ordered k order ys
 is_ordered-same kind.Section order xs ys h = rw (h order 8 (omega arith)) refl
 is_ordered-same kind.Interface order xs ys h = refl
@@ -40,7 +40,7 @@ is_ordered-same kind.Packet order xs ys h = refl
 is_ordered-same kind.NoFrame order xs ys h = refl
 is_ordered-same kind.Other order xs ys h = refl
 
-head_of_kind-same : (k : Kind) (order : Order) (xs ys : List ℕ) → AgreeAtHead xs ys
+head_of_kind-same : (k : BlockKind) (order : Order) (xs ys : List ℕ) → AgreeAtHead xs ys
     → head_of_kind k order xs ≡ head_of_kind k order ys
 head_of_kind-same k order xs ys h = rw (is_ordered-same k order xs ys h, h order 4 (omega arith)) refl
 
@@ -70,12 +70,12 @@ unfolding block_rest
 block_rest-take state xs within = rw (head_by-take state.order 12 xs (omega arith) within) refl
 
 -- the head tells how many bytes follow
-pub block_rest-told : (state : State) (xs : List ℕ) (head : Head) → state.blocks < most_numbers
+pub block_rest-told : (state : State) (xs : List ℕ) (head : BlockHead) → state.blocks < most_numbers
     → head_by state.order xs ≡ Some head → block_rest state xs ≡ Some (behind_head head)
 unfolding block_rest
 block_rest-told state xs head few told = rw (less state.blocks most_numbers few, told) refl
 
-least_at : (k : Kind) → 12 ≤ least_of k
+least_at : (k : BlockKind) → 12 ≤ least_of k
 least_at kind.Section = omega arith
 least_at kind.Interface = omega arith
 least_at kind.OldPacket = omega arith
@@ -86,5 +86,5 @@ least_at kind.NoFrame = omega arith
 least_at kind.Other = omega arith
 
 -- a block has its head and its last length
-pub least_size : (head : Head) → least_of head.kind ≤ head.size → 12 ≤ head.size
+pub least_size : (head : BlockHead) → least_of head.kind ≤ head.size → 12 ≤ head.size
 least_size head h = omega (arith, least_at head.kind, h)

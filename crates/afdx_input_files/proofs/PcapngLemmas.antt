@@ -11,7 +11,7 @@ use Rattle.afdx_input_lines.specs.declared.next.Progress.TheVariants as progress
 use Rattle.afdx_input_lines.specs.declared.fault.RunFault.TheVariants as run
 use Rattle.afdx_input_lines.specs.declared.recording_fault.RecordingFault.TheVariants.{Damaged, Ended}
 use Rattle.afdx_input_files.specs.declared.form.Form.TheVariants as form
-use Rattle.afdx_input_files.specs.declared.block.Head.{Head}
+use Rattle.afdx_input_files.specs.declared.block.BlockHead.{BlockHead}
 use Rattle.afdx_input_files.specs.Holding.{Standing, Gives, Passes}
 use Rattle.afdx_input_files.specs.Recordings.{State, Ends, Over, Faulted, Meaning, Numbered, by_meaning, most_numbers, totals_by}
 use Rattle.afdx_input_files.specs.Blocks.{head_by}
@@ -27,11 +27,11 @@ rest_in_front : (state : State) (xs more : List ℕ) → 12 ≤ length xs
 rest_in_front state xs more within = ap (block_rest state) (take-append-le 12 xs more within)
     ∙ block_rest-take state xs within
 
-back : (head : Head) → 12 ≤ head.size → 12 + behind_head head ≡ head.size
+back : (head : BlockHead) → 12 ≤ head.size → 12 + behind_head head ≡ head.size
 back head h = omega (arith, h)
 
 -- the block stands whole
-whole : (before : State) (head : Head) (xs more : List ℕ) → before.blocks < most_numbers
+whole : (before : State) (head : BlockHead) (xs more : List ℕ) → before.blocks < most_numbers
     → head_by before.order xs ≡ Some head → 12 ≤ head.size → head.size ≤ length xs
     → step_by (Some form.Pcapng) before (xs ++ more) ≡ by_meaning head.size (block_meaning before (take head.size xs))
 whole before head xs more few told least within =
@@ -44,7 +44,7 @@ whole before head xs more few told least within =
     (take-append-le head.size xs more within)
 
 -- less than the block is there
-cut : (before : State) (head : Head) (xs : List ℕ) → before.blocks < most_numbers
+cut : (before : State) (head : BlockHead) (xs : List ℕ) → before.blocks < most_numbers
     → head_by before.order xs ≡ Some head → 12 ≤ head.size → 12 ≤ length xs → length xs < head.size
     → step_by (Some form.Pcapng) before xs ≡ Ends (Faulted (Ended before.numbers))
 cut before head xs few told least held short =
@@ -54,7 +54,8 @@ cut before head xs few told least held short =
 
 -- what a call read tells of the block which stands first
 pub TellsBlock-meant : (result : Result Progress RunFault) (old new : Standing) (before after : State) (item : Numbered)
-    (head : Head) (given : List ℕ) → before.form ≡ Some form.Pcapng → after.form ≡ before.form → Gives old new given
+    (head : BlockHead) (given : List ℕ) → before.form ≡ Some form.Pcapng → after.form ≡ before.form →
+    Gives old new given
     → before.blocks < most_numbers → head_by before.order (old.held ++ given) ≡ Some head → 12 ≤ head.size
     → head.size ≤ length (old.held ++ given)
     → OnOk result (new.held ≡ drop head.size (old.held ++ given))
@@ -104,14 +105,14 @@ TellsBlock-meant (Err run.TooManyLines) old new before after item head given h k
     absurd meant
 
 -- the head stays the same when more is given
-pub told_later : (before : State) (head : Head) (xs given : List ℕ) → 12 ≤ length xs
+pub told_later : (before : State) (head : BlockHead) (xs given : List ℕ) → 12 ≤ length xs
     → head_by before.order xs ≡ Some head → head_by before.order (xs ++ given) ≡ Some head
 told_later before head xs given held told = head_by-append before.order xs given held ∙ told
 
 both : (xs ys : List ℕ) → length (xs ++ ys) ≡ length xs + length ys
 both xs ys = grind (arith, common_steps)
 
-pub told_in_all : (old new : Standing) (before : State) (head : Head) → Passes old new [] → 12 ≤ length old.held
+pub told_in_all : (old new : Standing) (before : State) (head : BlockHead) → Passes old new [] → 12 ≤ length old.held
     → head_by before.order old.held ≡ Some head → head_by before.order new.held ≡ Some head
 told_in_all old new before head passes held told =
     ap (head_by before.order) (sym passes.parts) ∙ told_later before head old.held passes.given held told
@@ -119,7 +120,7 @@ told_in_all old new before head passes held told =
 -- the block was held whole
 pub TellsBlock-held : (result : Result Progress RunFault) (old mid new : Standing) (before after : State)
     (item : Numbered)
-    (head : Head) → before.form ≡ Some form.Pcapng → after.form ≡ before.form → Passes old mid []
+    (head : BlockHead) → before.form ≡ Some form.Pcapng → after.form ≡ before.form → Passes old mid []
     → before.blocks < most_numbers → head_by before.order mid.held ≡ Some head → 12 ≤ head.size
     → head.size ≤ length mid.held → new.left ≡ mid.left → new.over ≡ mid.over → new.calls ≡ mid.calls
     → OnOk result (new.held ≡ drop head.size mid.held)
@@ -137,7 +138,7 @@ behind_passed passed rest n h = rw (← h) (drop-append-add passed rest 4)
 -- it was passed but for its last bytes
 pub TellsBlock-skipped : (result : Result Progress RunFault) (old mid new : Standing)
     (before after : State) (item : Numbered)
-    (head : Head) (passed : List ℕ) → before.form ≡ Some form.Pcapng → after.form ≡ before.form
+    (head : BlockHead) (passed : List ℕ) → before.form ≡ Some form.Pcapng → after.form ≡ before.form
     → Passes old mid passed → before.blocks < most_numbers → 12 ≤ length old.held
     → head_by before.order old.held ≡ Some head → 12 ≤ head.size → length passed + 4 ≡ head.size
     → 4 ≤ length mid.held → new.left ≡ mid.left → new.over ≡ mid.over → new.calls ≡ mid.calls
@@ -153,14 +154,14 @@ TellsBlock-skipped result old mid new before after item head passed h k passes f
     (told_later before head old.held passes.given held told) least (rw all long)
     (rw (all, behind_passed passed mid.held head.size size) rest) (rw all meant)
 
-pub told_behind : (old new : Standing) (before : State) (head : Head) (passed : List ℕ) → Passes old new passed
+pub told_behind : (old new : Standing) (before : State) (head : BlockHead) (passed : List ℕ) → Passes old new passed
     → 12 ≤ length old.held → head_by before.order old.held ≡ Some head
     → head_by before.order (passed ++ new.held) ≡ Some head
 told_behind old new before head passed passes held told =
     ap (head_by before.order) (sym passes.parts) ∙ told_later before head old.held passes.given held told
 
 -- the input ended within the block
-pub SaysEnding-within : (old new : Standing) (before : State) (head : Head) (passed : List ℕ)
+pub SaysEnding-within : (old new : Standing) (before : State) (head : BlockHead) (passed : List ℕ)
     → before.form ≡ Some form.Pcapng → (passes : Passes old new passed) → new.ended ≡ true
     → before.blocks < most_numbers → 12 ≤ length old.held → head_by before.order old.held ≡ Some head
     → 12 ≤ head.size → length passed + length new.held < head.size
@@ -177,7 +178,7 @@ SaysEnding-within old new before head passed h passes ended few held told least 
     (omega (arith, size, short))))
 
 -- it failed there
-pub SaysNothing-within : (old new : Standing) (before : State) (head : Head) (passed : List ℕ)
+pub SaysNothing-within : (old new : Standing) (before : State) (head : BlockHead) (passed : List ℕ)
     → before.form ≡ Some form.Pcapng → (passes : Passes old new passed)
     → before.blocks < most_numbers → 12 ≤ length old.held → head_by before.order old.held ≡ Some head
     → 12 ≤ head.size → length passed + length new.held < head.size → SaysNothing old new before

@@ -7,9 +7,9 @@ use Rattle.afdx_input_files.specs.Limits.{most_interfaces}
 use Rattle.afdx_input_files.specs.declared.order.Order.{Order}
 use Rattle.afdx_input_files.specs.declared.interface.Interface.{Interface}
 use Rattle.afdx_input_files.specs.declared.interface.Losses.{Losses}
-use Rattle.afdx_input_files.specs.declared.block.Kind.{Kind}
-use Rattle.afdx_input_files.specs.declared.block.Kind.TheVariants as kind
-use Rattle.afdx_input_files.specs.declared.block.Head.{Head}
+use Rattle.afdx_input_files.specs.declared.block.BlockKind.{BlockKind}
+use Rattle.afdx_input_files.specs.declared.block.BlockKind.TheVariants as kind
+use Rattle.afdx_input_files.specs.declared.block.BlockHead.{BlockHead}
 use Rattle.afdx_input_files.specs.declared.block_packet.Placed.{Placed}
 use Rattle.afdx_input_files.specs.declared.recorded.Recorded.TheVariants.{NoFrame}
 use Rattle.afdx_input_files.specs.Orders.{half_at, word_at}
@@ -97,7 +97,7 @@ abbrev pub no_frame : Placed
 no_frame = record { what = NoFrame; start = 0; count = 0 }
 
 -- what a block of a kind means, by its body
-abbrev pub kind_meaning : Kind → State → Order → List ℕ → Meaning
+abbrev pub kind_meaning : BlockKind → State → Order → List ℕ → Meaning
 kind_meaning kind.Section state order body = section_meaning state order body
 kind_meaning kind.Interface state order body = interface_meaning state order body
 kind_meaning kind.Statistics state order body = statistics_meaning state order body
@@ -110,7 +110,7 @@ kind_meaning kind.NoFrame state order body = number_meaning state body no_frame
 kind_meaning kind.Other state order body = Says (after_block state) None
 
 -- the bytes that follow the head of a block
-abbrev pub behind_head : Head → ℕ
+abbrev pub behind_head : BlockHead → ℕ
 behind_head head = head.size - block_head
 
 unfoldable pub block_rest : State → List ℕ → Option ℕ
@@ -123,7 +123,7 @@ unfoldable pub body_of : ℕ → List ℕ → List ℕ
 body_of size whole = take (size - block_head) (drop body_start whole)
 
 -- it ends with its length, too
-abbrev pub whole_meaning : State → List ℕ → Head → Meaning
+abbrev pub whole_meaning : State → List ℕ → BlockHead → Meaning
 whole_meaning state whole head =
     if word_at head.order (head.size - 4) whole == head.size
     then kind_meaning head.kind state head.order (body_of head.size whole)

@@ -16,7 +16,7 @@ const LONGEST_BLOCK: u32 = 16_777_216;
 
 /// What a block is.
 #[derive(Clone, Copy, Debug, PartialEq, Eq)]
-pub enum Kind {
+pub enum BlockKind {
     /// The begin of a section.
     Section,
     /// The description of an interface.
@@ -37,9 +37,9 @@ pub enum Kind {
 
 /// What the first bytes of a block say.
 #[derive(Clone, Copy, Debug, PartialEq, Eq)]
-pub struct Head {
+pub struct BlockHead {
     /// What it is.
-    pub kind: Kind,
+    pub kind: BlockKind,
     /// The order of its bytes.
     pub order: Order,
     /// Its bytes in all.
@@ -49,37 +49,37 @@ pub struct Head {
 /// The kind of a block of this type.
 #[inline(never)]
 #[tactic(auto, unfolding(crate::specs::Blocks::kind_of))]
-fn kind_named(number: u32) -> Kind
+fn kind_named(number: u32) -> BlockKind
     ensures { result ≡ kind_of number }
 {
     match number {
-        0x0a0d_0d0a => Kind::Section,
-        1 => Kind::Interface,
-        2 => Kind::OldPacket,
-        3 => Kind::SimplePacket,
-        5 => Kind::Statistics,
-        6 => Kind::Packet,
-        9 => Kind::NoFrame,
-        0x0bad => Kind::NoFrame,
-        0x4000_0bad => Kind::NoFrame,
-        _ => Kind::Other,
+        0x0a0d_0d0a => BlockKind::Section,
+        1 => BlockKind::Interface,
+        2 => BlockKind::OldPacket,
+        3 => BlockKind::SimplePacket,
+        5 => BlockKind::Statistics,
+        6 => BlockKind::Packet,
+        9 => BlockKind::NoFrame,
+        0x0bad => BlockKind::NoFrame,
+        0x4000_0bad => BlockKind::NoFrame,
+        _ => BlockKind::Other,
     }
 }
 
-impl Kind {
+impl BlockKind {
     /// The least bytes of a block of this kind.
     fn least(self) -> u32
         ensures { result ≡ least_of self }
     {
         match self {
-            Kind::Section => 28,
-            Kind::Interface => 20,
-            Kind::OldPacket => 32,
-            Kind::SimplePacket => 16,
-            Kind::Statistics => 24,
-            Kind::Packet => 32,
-            Kind::NoFrame => 12,
-            Kind::Other => 12,
+            BlockKind::Section => 28,
+            BlockKind::Interface => 20,
+            BlockKind::OldPacket => 32,
+            BlockKind::SimplePacket => 16,
+            BlockKind::Statistics => 24,
+            BlockKind::Packet => 32,
+            BlockKind::NoFrame => 12,
+            BlockKind::Other => 12,
         }
     }
 
@@ -88,8 +88,8 @@ impl Kind {
         ensures { result ≡ is_held self }
     {
         match self {
-            Kind::NoFrame => false,
-            Kind::Other => false,
+            BlockKind::NoFrame => false,
+            BlockKind::Other => false,
             _ => true,
         }
     }
@@ -109,7 +109,7 @@ impl Kind {
         ensures { result ≡ order_by self before head.now }
     {
         match self {
-            Kind::Section => {
+            BlockKind::Section => {
                 if Order::HighFirst.word(head, 8) == ORDER_MAGIC {
                     Order::HighFirst
                 } else {
@@ -126,7 +126,7 @@ impl Kind {
         ensures { result ≡ is_ordered self order head.now }
     {
         match self {
-            Kind::Section => order.word(head, 8) == ORDER_MAGIC,
+            BlockKind::Section => order.word(head, 8) == ORDER_MAGIC,
             _ => true,
         }
     }
@@ -137,14 +137,14 @@ impl Kind {
 /// Most blocks are packets. So what is asked of these is written out by itself.
 #[inline(always)]
 #[tactic(auto, unfolding(crate::specs::Blocks::head_by, crate::specs::Blocks::kind_of))]
-pub fn head_of(before: Order, head: &[u8]) -> Option<Head>
+pub fn head_of(before: Order, head: &[u8]) -> Option<BlockHead>
     requires { block_head ≤ length head.now }
     ensures told { result ≡ head_by before head.now }
     ensures least { IfSome result (λ head. least_of head.kind ≤ head.size) }
 {
     let number = before.word(head, 0);
     if number == PACKET {
-        head_of_kind(Kind::Packet, before, head)
+        head_of_kind(BlockKind::Packet, before, head)
     } else {
         head_of_kind(kind_named(number), before, head)
     }
@@ -152,7 +152,7 @@ pub fn head_of(before: Order, head: &[u8]) -> Option<Head>
 
 /// The same of a block of this kind.
 #[inline(always)]
-fn head_of_kind(kind: Kind, before: Order, head: &[u8]) -> Option<Head>
+fn head_of_kind(kind: BlockKind, before: Order, head: &[u8]) -> Option<BlockHead>
     requires { block_head ≤ length head.now }
     ensures told { result ≡ head_of_kind kind (order_by kind before head.now) head.now }
     ensures least { IfSome result (λ head. least_of head.kind ≤ head.size) }
@@ -160,7 +160,7 @@ fn head_of_kind(kind: Kind, before: Order, head: &[u8]) -> Option<Head>
     let order = kind.order(before, head);
     let size = order.word(head, 4);
     if kind.tells_order(order, head) && kind.may_have(size) {
-        Some(Head { kind, order, size })
+        Some(BlockHead { kind, order, size })
     } else {
         None
     }

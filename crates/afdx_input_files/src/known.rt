@@ -3,7 +3,7 @@
 ghost use Rattle.std.specs.Prelude.{◌≡◌, ◌≤◌, ◌<◌, ◌+◌, length, slice_get, vec_len, IfSome, MatchResult};
 ghost use Rattle.afdx_input_files.specs.Limits.{most_interfaces, most_numbers};
 
-use crate::block::Kind;
+use crate::block::BlockKind;
 use crate::block_packet::{Placed, packet_of, simple_packet_of};
 use crate::form::Form;
 use crate::interface::{Interface, interface_of, losses_of};
@@ -293,7 +293,7 @@ impl Known {
     #[inline(always)]
     pub fn take_body(
         &mut self,
-        kind: Kind,
+        kind: BlockKind,
         order: Order,
         body: &[u8],
     ) -> Result<Option<Placed>, RunFault>
@@ -306,17 +306,17 @@ impl Known {
         ensures within { IsPlaced result body.now }
     {
         match kind {
-            Kind::Section => self.begin_section(order, body),
-            Kind::Interface => self.add_interface(order, body),
-            Kind::Statistics => self.add_statistics(order, body),
-            Kind::Packet => self.take_packet(order, order.word(body, 0) as usize, body),
-            Kind::OldPacket => self.take_old_packet(order, body),
-            Kind::SimplePacket => self.take_simple_packet(order, body),
-            Kind::NoFrame => {
+            BlockKind::Section => self.begin_section(order, body),
+            BlockKind::Interface => self.add_interface(order, body),
+            BlockKind::Statistics => self.add_statistics(order, body),
+            BlockKind::Packet => self.take_packet(order, order.word(body, 0) as usize, body),
+            BlockKind::OldPacket => self.take_old_packet(order, body),
+            BlockKind::SimplePacket => self.take_simple_packet(order, body),
+            BlockKind::NoFrame => {
                 self.count_number();
                 Ok(Some(NO_FRAME))
             }
-            Kind::Other => {
+            BlockKind::Other => {
                 self.count_block();
                 Ok(None)
             }

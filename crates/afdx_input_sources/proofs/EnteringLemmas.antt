@@ -21,7 +21,7 @@ use Rattle.afdx_input_sources.specs.Engine.{Item}
 use Rattle.afdx_input_sources.specs.declared.ahead.AtHead.{AtHead}
 use Rattle.afdx_input_sources.specs.declared.ahead.AtHead.TheVariants as at
 use Rattle.afdx_input_sources.specs.declared.entering.Entrance.{Entrance}
-use Rattle.afdx_input_sources.specs.declared.becoming.Found.{Found}
+use Rattle.afdx_input_sources.specs.declared.becoming.FoundFrame.{FoundFrame}
 use Rattle.afdx_input_sources.specs.declared.becoming.NoArrival.{NoArrival}
 use Rattle.afdx_input_sources.specs.declared.becoming.NoArrival.TheVariants as no
 use Rattle.afdx_input_sources.specs.declared.number.AsRead.{AsRead}
@@ -31,8 +31,8 @@ use Rattle.afdx_input_sources.specs.declared.number_line.NumberLine.{NumberLine}
 use Rattle.afdx_input_sources.specs.declared.number_line.NumberLine.TheVariants as line
 use Rattle.afdx_input_sources.specs.declared.ordered.Stage.{Stage}
 use Rattle.afdx_input_sources.specs.declared.ordered.Stage.TheVariants as stage
-use Rattle.afdx_input_sources.specs.declared.places.Entry.{Entry}
-use Rattle.afdx_input_sources.specs.declared.places.Place.{Place}
+use Rattle.afdx_input_sources.specs.declared.places.TapPort.{TapPort}
+use Rattle.afdx_input_sources.specs.declared.places.TapPoint.{TapPoint}
 use Rattle.afdx_input_sources.specs.declared.skipped.Skipped.TheVariants as why
 use Rattle.afdx_input_sources.specs.declared.timed_pair.TimedPair.{TimedPair}
 use Rattle.afdx_input_sources.specs.Becoming.{Options, becomes, check, ends_with_sequence, entrance_of, entrance_with, entry_of}
@@ -64,7 +64,7 @@ use Rattle.afdx_input_sources.proofs.TimingLemmas.{timed-before}
 
 -- ---- what holds where an arrival came in
 
-module _ (Enters : Entry → Type 0) where
+module _ (Enters : TapPort → Type 0) where
   abbrev Comes : Number → Type 0
   Comes (Arrival found) = Enters (entry_at found.switch found.port)
   Comes (Skipped reason) = Unit {0}
@@ -79,21 +79,21 @@ IfGood P (Ok x) = P x
 IfGood P (Err reason) = Unit {0}
 
 module _ (options : Options) (ports : Ports) where
-  abbrev HasEntry : Found → Type 0
+  abbrev HasEntry : FoundFrame → Type 0
   HasEntry found = IsEntry options ports (entry_at found.switch found.port)
 
   -- where it came in is what is said, or claimed
-  abbrev Says : Option Place → List ℕ → Entrance → Type 0
+  abbrev Says : Option TapPoint → List ℕ → Entrance → Type 0
   Says place bytes entrance = entry_of place ports bytes ≡ Some entrance.entry
 
-  entrance-says : (place : Option Place) (bytes : List ℕ)
+  entrance-says : (place : Option TapPoint) (bytes : List ℕ)
       → IfGood (Says place bytes) (entrance_of options.network place ports bytes)
   unfolding entrance_of
   entrance-says place bytes =
       by (is_taken (role_of place) bytes) (entry_of place ports bytes) refl
       (option_or (side_said options.network place) (side_claimed bytes))
     where
-      by : (named : Bool) (entry : Option Entry) → entry_of place ports bytes ≡ entry → (side : Option Side)
+      by : (named : Bool) (entry : Option TapPort) → entry_of place ports bytes ≡ entry → (side : Option Side)
           → IfGood (Says place bytes) (check named (no.Skipped why.NotAfdx)
           >> (or_else entry (no.Skipped why.UnknownSender) >>= (λ entry.
           or_else side (no.Skipped why.NoNetwork) >>= (λ side.
@@ -127,7 +127,7 @@ module _ (options : Options) (ports : Ports) where
       by (not (is_left_out options.leaves_unsaid place)) (whole_moment options.fcs n frame (length bytes))
       (entrance_of options.network place ports bytes) (entrance-says place bytes)
     where
-      place : Option Place
+      place : Option TapPoint
       place = options.place frame.interface
 
       by : (taken : Bool) (stamp : Result ℕ NoArrival) (entrance : Result Entrance NoArrival)
@@ -167,7 +167,7 @@ module _ (options : Options) (ports : Ports) where
   IfRead (Ok number) = IsIn number
   IfRead (Err fault) = Unit {0}
 
-  by-entered : (r : Result Found NoArrival) → IfGood HasEntry r → IfRead (number_by r)
+  by-entered : (r : Result FoundFrame NoArrival) → IfGood HasEntry r → IfRead (number_by r)
   by-entered (Ok found) h = h
   by-entered (Err (no.Skipped reason)) h = tt
   by-entered (Err (no.Faulted fault)) h = tt
@@ -278,7 +278,7 @@ module _ {R : Type 0} (remaining : R → Option (List ℕ)) (start input : Watch
 
 -- ---- lines, and the arrivals among them
 
-module _ (Enters : Entry → Type 0) where
+module _ (Enters : TapPort → Type 0) where
   abbrev IsLineOf : NumberLine → Type 0
   IsLineOf (line.Arrival kind time role side switch port) = Enters (entry_at switch port)
   IsLineOf (line.Skipped reason) = Unit {0}
@@ -337,7 +337,7 @@ pub entry-agrees : EntriesAgree
 entry-agrees options p q entry a h = record {
   interface = h.interface;
   bytes = h.bytes;
-  says = ap (λ (e : Option Entry). option_or (entry_said (options.place h.interface))
+  says = ap (λ (e : Option TapPort). option_or (entry_said (options.place h.interface))
       (only_if (allows (options.place h.interface)) e)) (sym (a.entries h.bytes)) ∙ h.says;
 }
 
@@ -351,7 +351,7 @@ module _ {R : Type 0} (remaining : R → Option (List ℕ)) (start inputs : BySi
   abbrev of_b : Options
   of_b = options_of source.pair.second.source.source.options
 
-  abbrev EntersOne : Entry → Type 0
+  abbrev EntersOne : TapPort → Type 0
   EntersOne entry = IsEntry of_a ports entry ⊎ IsEntry of_b ports entry
 
   comes-a : (head : Number) → IsIn of_a (ports_of source.pair.first.source.source.ports) head

@@ -21,14 +21,14 @@ use Rattle.afdx_input_files.specs.declared.recorded.RecordedFrame.{RecordedFrame
 use Rattle.afdx_input_files.specs.Reading as reading
 use Rattle.afdx_input_files.specs.Recordings.{Numbered, Ending, Recording, Totals}
 use Rattle.afdx_input_sources.specs.Items.{arrivals}
-use Rattle.afdx_input_sources.specs.declared.becoming.Found.{Found}
+use Rattle.afdx_input_sources.specs.declared.becoming.FoundFrame.{FoundFrame}
 use Rattle.afdx_input_sources.specs.declared.entering.Entrance.{Entrance}
 use Rattle.afdx_input_sources.specs.declared.becoming.NoArrival.{NoArrival}
 use Rattle.afdx_input_sources.specs.declared.becoming.NoArrival.TheVariants as no
 use Rattle.afdx_input_sources.specs.declared.skipped.Skipped.TheVariants as why
 use Rattle.afdx_input_lines.specs.declared.recording_fault.RecordingFault.TheVariants as fault
 use Rattle.afdx_input_sources.specs.declared.number.Number.{Number}
-use Rattle.afdx_input_sources.specs.declared.places.Place.{Place}
+use Rattle.afdx_input_sources.specs.declared.places.TapPoint.{TapPoint}
 use Rattle.afdx_input_sources.specs.Becoming.{Options, becomes, frame_becomes, entrance_of, without_own}
 use Rattle.afdx_input_sources.specs.Becoming.{seal_by, check, ends_with_sequence, found_with, is_before}
 use Rattle.afdx_input_sources.specs.Becoming.{is_from_start, kind_used, kind_with}
@@ -51,7 +51,7 @@ use Rattle.afdx_input_sources.proofs.OrderLemmas.{merged-ordered, lines-ordered}
 -- ---- ways to know a port that agree
 
 module _ (options : Options) (p q : Ports) (a : Agree p q) where
-  same-entrance : (place : Option Place) (bytes : List ℕ)
+  same-entrance : (place : Option TapPoint) (bytes : List ℕ)
       → entrance_of options.network place p bytes ≡ entrance_of options.network place q bytes
   unfolding entrance_of
   same-entrance place bytes = rw (a.claims, a.entries bytes) refl
@@ -62,7 +62,7 @@ module _ (options : Options) (p q : Ports) (a : Agree p q) where
   same-bind (Err why) f g h = refl
 
   -- what a frame becomes, once it is known where it came in
-  abbrev behind : Ports → (n : ℕ) → RecordedFrame → List ℕ → (stamp : ℕ) → Entrance → Result Found NoArrival
+  abbrev behind : Ports → (n : ℕ) → RecordedFrame → List ℕ → (stamp : ℕ) → Entrance → Result FoundFrame NoArrival
   behind ports n frame bytes stamp entrance =
       moment_by (is_from_start options entrance.role) n stamp (line_time ports entrance.entry
       (ends_with_sequence options.fcs frame.check_sequence) bytes)
@@ -80,7 +80,7 @@ module _ (options : Options) (p q : Ports) (a : Agree p q) where
   unfolding frame_becomes
   same-frame n frame bytes =
       let place = options.place frame.interface in
-      ap (λ (r : Result Found NoArrival). check (not (is_left_out options.leaves_unsaid place))
+      ap (λ (r : Result FoundFrame NoArrival). check (not (is_left_out options.leaves_unsaid place))
       (no.Skipped why.LeftOut) >> r)
       (same-bind (whole_moment options.fcs n frame (length bytes))
       (λ stamp. entrance_of options.network place p bytes >>= behind p n frame bytes stamp)
@@ -98,7 +98,7 @@ module _ (options : Options) (p q : Ports) (a : Agree p q) where
       → number_after options p past item ≡ number_after options q past item
   unfolding number_after
   same-after past item =
-      ap (λ (r : Result Found NoArrival). number_by r)
+      ap (λ (r : Result FoundFrame NoArrival). number_by r)
       (same-number (length past + 1) item.what item.bytes)
 
   same-next : (f g : Number → Outcome) (past : Numbers) (totals : Totals) (r : Result Number RecordingFault)

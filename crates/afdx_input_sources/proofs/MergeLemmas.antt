@@ -4,7 +4,7 @@ use Rattle.std.proofs.Common.{Option, Some, None, Bool, true, false, if◌then�
 use Rattle.std.proofs.lemmas.List.{length-map}
 use Rattle.afdx_input_lines.specs.declared.fault.RunFault.{RunFault}
 use Rattle.afdx_input_sources.specs.Engine.{Item}
-use Rattle.afdx_input_sources.specs.declared.becoming.Found.{Found}
+use Rattle.afdx_input_sources.specs.declared.becoming.FoundFrame.{FoundFrame}
 use Rattle.afdx_input_sources.specs.declared.merged.Nth.{Nth}
 use Rattle.afdx_input_sources.specs.declared.merged.Nth.TheVariants.{First, Second}
 use Rattle.afdx_input_sources.specs.declared.number.Number.{Number}
@@ -34,7 +34,7 @@ merge-skipped-a past x xs ys fa fb is =
 
 -- an arrival of A stands at its head
 pub merge-head : (past : Numbers) (x : Item Number) (xs ys : List (Item Number))
-    (fa fb : Option RunFault) (found : Found)
+    (fa fb : Option RunFault) (found : FoundFrame)
     → x.head ≡ Arrival found
     → merge past (x ∷ xs) fa ys fb ≡ at_head_of_a x (λ before ys. merge before xs fa ys fb) past ys fb
 unfolding merge
@@ -42,7 +42,7 @@ merge-head past x xs ys fa fb found is = rw is refl
 
 -- and comes, for it is not later than that of B
 pub merge-arrival-a : (past : Numbers) (x y : Item Number) (xs ys : List (Item Number)) (fa fb : Option RunFault)
-    (found : Found) → x.head ≡ Arrival found → is_first y.head (Arrival found) ≡ false
+    (found : FoundFrame) → x.head ≡ Arrival found → is_first y.head (Arrival found) ≡ false
     → merge past (x ∷ xs) fa (y ∷ ys) fb ≡ merge (x ∷ past) xs fa (y ∷ ys) fb
 unfolding at_head_of_a
 merge-arrival-a past x y xs ys fa fb found is later =
@@ -51,7 +51,7 @@ merge-arrival-a past x y xs ys fa fb found is later =
 
 -- or B is at its end
 pub merge-arrival-alone : (past : Numbers) (x : Item Number) (xs : List (Item Number)) (fa : Option RunFault)
-    (found : Found) → x.head ≡ Arrival found → merge past (x ∷ xs) fa [] None ≡ merge (x ∷ past) xs fa [] None
+    (found : FoundFrame) → x.head ≡ Arrival found → merge past (x ∷ xs) fa [] None ≡ merge (x ∷ past) xs fa [] None
 unfolding at_head_of_a
 merge-arrival-alone past x xs fa found is = merge-head past x xs [] fa None found is
 
@@ -72,7 +72,7 @@ at-first past x y next ys fb first = rw first refl
 
 -- a number of B comes before the arrival of A
 pub merge-first-b : (past : Numbers) (x y : Item Number) (xs ys : List (Item Number)) (fa fb : Option RunFault)
-    (found : Found) → x.head ≡ Arrival found → is_first y.head (Arrival found) ≡ true
+    (found : FoundFrame) → x.head ≡ Arrival found → is_first y.head (Arrival found) ≡ true
     → merge past (x ∷ xs) fa (y ∷ ys) fb ≡ merge (y ∷ past) (x ∷ xs) fa ys fb
 merge-first-b past x y xs ys fa fb found is first =
     merge-head past x xs (y ∷ ys) fa fb found is
@@ -87,7 +87,7 @@ merge-alone-b past y ys fb = refl
 
 -- a fault of B, while an arrival of A stands
 pub merge-fault-b : (past : Numbers) (x : Item Number) (xs : List (Item Number)) (fa : Option RunFault)
-    (fault : RunFault) (found : Found) → x.head ≡ Arrival found
+    (fault : RunFault) (found : FoundFrame) → x.head ≡ Arrival found
     → merge past (x ∷ xs) fa [] (Some fault) ≡ record { numbers = past; fault = Some fault }
 unfolding at_head_of_a
 merge-fault-b past x xs fa fault found is = merge-head past x xs [] fa (Some fault) found is
@@ -100,11 +100,13 @@ merge-fault-alone past fault = refl
 
 -- ---- one step more, by when a number comes
 
-first-same : (y : Number) (found : Found) → is_first y (Arrival found) ≡ is_earlier (comes_at y) (Some found.moment)
+first-same : (y : Number) (found : FoundFrame) → is_first y (Arrival found) ≡
+    is_earlier (comes_at y) (Some found.moment)
 first-same (Arrival other) found = refl
 first-same (Skipped reason) found = refl
 
-arrival-of : (n : Number) (t : ℕ) → comes_at n ≡ Some t → (found : Found) × (n ≡ Arrival found) × (found.moment ≡ t)
+arrival-of : (n : Number) (t : ℕ) → comes_at n ≡ Some t → (found : FoundFrame) × (n ≡ Arrival found) ×
+    (found.moment ≡ t)
 arrival-of (Arrival found) t e = (found, refl, cc)
 arrival-of (Skipped reason) t e = absurd (cc)
 
@@ -117,7 +119,8 @@ timed-before a (Some t) e = (t, refl)
 timed-before None None e = absurd (cc)
 timed-before (Some y) None e = absurd (cc)
 
-by-time : (y x : Number) (t : ℕ) (found : Found) (b : Bool) → found.moment ≡ t → is_earlier (comes_at y) (Some t) ≡ b
+by-time : (y x : Number) (t : ℕ) (found : FoundFrame) (b : Bool) → found.moment ≡ t →
+    is_earlier (comes_at y) (Some t) ≡ b
     → is_first y (Arrival found) ≡ b
 by-time y x t found b at_t e =
     first-same y found ∙ ap (λ (m : ℕ). is_earlier (comes_at y) (Some m)) at_t ∙ e

@@ -6,7 +6,7 @@ use Rattle.std.proofs.lemmas.List.{reverse-append}
 use Rattle.afdx_input_lines.specs.declared.fault.RunFault.{RunFault}
 use Rattle.afdx_input_sources.specs.Engine.{Item}
 use Rattle.afdx_input_sources.specs.Items.{arrivals}
-use Rattle.afdx_input_sources.specs.declared.becoming.Found.{Found}
+use Rattle.afdx_input_sources.specs.declared.becoming.FoundFrame.{FoundFrame}
 use Rattle.afdx_input_sources.specs.declared.number.Number.{Number}
 use Rattle.afdx_input_sources.specs.declared.number.Number.TheVariants as number
 use Rattle.afdx_input_sources.specs.Laws.{AreInOrder}
@@ -81,13 +81,13 @@ behind-ordered past (Some fault) ys fault_b h a = h
 behind-ordered past None ys fault_b h a = rest-ordered past ys fault_b h a
 
 -- the head of B is looked at
-first-of-b : (latest : ℕ) (x : Found) (y : Number) → latest ≤ x.moment → is_first y (number.Arrival x) ≡ true
+first-of-b : (latest : ℕ) (x : FoundFrame) (y : Number) → latest ≤ x.moment → is_first y (number.Arrival x) ≡ true
     → moment_or y latest ≤ x.moment
 first-of-b latest x (number.Arrival found) le e =
     let lt = ltb-true found.moment x.moment e in omega (arith, lt)
 first-of-b latest x (number.Skipped reason) le e = le
 
-rest-of-b : (latest : ℕ) (x : Found) (y : Item Number) (ys : List (Item Number))
+rest-of-b : (latest : ℕ) (x : FoundFrame) (y : Item Number) (ys : List (Item Number))
     → is_first y.head (number.Arrival x) ≡ false → Ascend latest (y ∷ ys) → Ascend x.moment (y ∷ ys)
 rest-of-b latest x y ys e a = by y.head refl
   where
@@ -101,7 +101,7 @@ rest-of-b latest x y ys e a = by y.head refl
     by (number.Skipped reason) is =
         absurd (cc (sym (ap (λ h. is_first h (number.Arrival x)) is) ∙ e))
 
-module _ (x : Item Number) (found : Found) (is : x.head ≡ number.Arrival found)
+module _ (x : Item Number) (found : FoundFrame) (is : x.head ≡ number.Arrival found)
     (next : Numbers → List (Item Number) → Merged)
     (f : (past : Numbers) (ys : List (Item Number)) → AreOrdered past → latest_of past ≡ found.moment
     → Ascend found.moment ys → AreOrdered (next past ys).numbers) where

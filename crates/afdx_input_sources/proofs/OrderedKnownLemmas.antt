@@ -19,7 +19,7 @@ use Rattle.afdx_input_sources.specs.declared.ordered.Stage.TheVariants as stage
 use Rattle.afdx_input_sources.specs.Becoming.{options_of}
 use Rattle.afdx_input_sources.specs.Claims.{ports_of}
 use Rattle.afdx_input_sources.specs.Places.{place_of}
-use Rattle.afdx_input_sources.specs.declared.places.Place.{Place}
+use Rattle.afdx_input_sources.specs.declared.places.TapPoint.{TapPoint}
 use Rattle.afdx_input_sources.specs.OrderedRecording.{OrderedRecording, IsSetInOrder, HasTaken, HasTakenAll, HasStoppedTaking}
 use Rattle.afdx_input_sources.specs.OrderedRecording.{tally_of_source}
 use Rattle.afdx_input_sources.specs.OrderedSource.{AreForward, AreLeft, StopsAt}
@@ -74,7 +74,7 @@ module _ {R : Type 0} (remaining : R → Option (List ℕ)) (start input : Watch
 -- ---- where all bytes of the input are known
 
 -- what is in order of numbers that were read
-sequence-is : (most : ℕ) (place : ℕ → Option Place) (outcome : Outcome) (numbers : Numbers) (all : Forward)
+sequence-is : (most : ℕ) (place : ℕ → Option TapPoint) (outcome : Outcome) (numbers : Numbers) (all : Forward)
     → outcome.numbers ≡ numbers → forward most numbers ≡ all
     → ((ordered most place outcome).numbers ≡ all_handed most all.numbers)
     × ((ordered most place outcome).known ≡ handed_on most all.numbers)
@@ -99,7 +99,7 @@ module _ {R : Type 0} (remaining : R → Option (List ℕ)) (start input : Watch
   abbrev Raw-of : List ℕ → Outcome
   Raw-of = Read-of remaining start input source.source past bytes known
 
-  abbrev place : ℕ → Option Place
+  abbrev place : ℕ → Option TapPoint
   place = place_of source.source.options.interfaces
 
   -- the sequence, by the order of the source

@@ -91,8 +91,8 @@ module _ (most : ℕ) (read : List (Item AsRead)) (x : Item AsRead) (f : AreForw
   abbrev X : Item Number
   X = number_read x
 
-  abbrev Held : Numbers
-  Held = take most (in_order Nums)
+  abbrev HeldArrivals : Numbers
+  HeldArrivals = take most (in_order Nums)
 
   pub more-forward : goes_back most X Nums ≡ false → AreForward most (x ∷ read)
   more-forward e = record {
@@ -127,22 +127,24 @@ module _ (most : ℕ) (read : List (Item AsRead)) (x : Item AsRead) (f : AreForw
       → AreHeld most (x ∷ read) held' past
   hold-held held held' past a p room h =
       let n = permutes-length (X ∷ held) held' p in
-      let m = permutes-length held Held h.are_held in
+      let m = permutes-length held HeldArrivals h.are_held in
       let k = held-more most X Nums a (omega (arith, n, m, room)) in record {
         are_held = IsPermutation-trans held' (X ∷ held) (take most (in_order (X ∷ Nums)))
             (IsPermutation-sym (X ∷ held) held' p)
-            (subst (λ (xs : Numbers). IsPermutation (X ∷ held) xs) (sym k.1) (put-permutes X held Held h.are_held));
+            (subst (λ (xs : Numbers). IsPermutation (X ∷ held) xs) (sym k.1)
+            (put-permutes X held HeldArrivals h.are_held));
         handed = h.handed ∙ sym k.0;
       }
 
   -- what is held with it falls
-  put-falls : is_arrival x.head.becomes ≡ true → (back : goes_back most X Nums ≡ false) → IsFalling (put_among X Held)
+  put-falls : is_arrival x.head.becomes ≡ true → (back : goes_back most X Nums ≡ false) →
+      IsFalling (put_among X HeldArrivals)
   put-falls a back =
       let g = more-forward back in
       let all = order-falls (x ∷ read) g.few g.numbered in
       let split = arrival-order X Nums a
       ∙ put-split X most (in_order Nums) (sorting.order-falls Nums) (few-later most X Nums a back) in
-      let front = put_among X Held in
+      let front = put_among X HeldArrivals in
       subst IsFalling (take-append_seam front (drop most (in_order Nums)))
       (falling-take (length front) (front ++ drop most (in_order Nums)) (subst IsFalling split all))
 
@@ -153,11 +155,11 @@ module _ (most : ℕ) (read : List (Item AsRead)) (x : Item AsRead) (f : AreForw
       → AreHeld most (x ∷ read) held'' (y ∷ past)
   exchange-held held held' held'' past y a back p full first q h =
       let n = permutes-length (X ∷ held) held' p in
-      let m = permutes-length held Held h.are_held in
+      let m = permutes-length held HeldArrivals h.are_held in
       let k = held-full most X Nums a back (omega (arith, n, m, full)) in
-      let all = IsPermutation-trans held' (X ∷ held) (put_among X Held) (IsPermutation-sym (X ∷ held) held' p)
-      (put-permutes X held Held h.are_held) in
-      let last = first-is-last (put_among X Held) held' y held'' (put-falls a back) all q first in
+      let all = IsPermutation-trans held' (X ∷ held) (put_among X HeldArrivals) (IsPermutation-sym (X ∷ held) held' p)
+      (put-permutes X held HeldArrivals h.are_held) in
+      let last = first-is-last (put_among X HeldArrivals) held' y held'' (put-falls a back) all q first in
       let same = same-ends last.0 (take most (in_order (X ∷ Nums))) y k.0 (sym last.1 ∙ k.1) in record {
         are_held = subst (λ (xs : Numbers). IsPermutation held'' xs) same.front last.2;
         handed = rw (same.last, h.handed) (sym k.2);

@@ -10,7 +10,7 @@ use Rattle.afdx_input_sources.specs.Places.{names_of, place_of, places_but}
 use Rattle.afdx_input_sources.specs.Placing.{place_in, ArePlaced}
 use Rattle.afdx_input_sources.specs.Tables.{known}
 use Rattle.afdx_input_sources.specs.declared.places.Interfaces.{Interfaces}
-use Rattle.afdx_input_sources.specs.declared.places.Place.{Place}
+use Rattle.afdx_input_sources.specs.declared.places.TapPoint.{TapPoint}
 
 pub none-if : {X : Type 0} (o : Option X) → ((x : X) → o ≡ Some x → ⊥) → o ≡ None
 none-if None h = refl
@@ -39,18 +39,18 @@ module _ (d : Described) (old : Interfaces) where
     behind = λ i le. h.behind i (omega (arith, le));
   }
 
-  but-at : (places : ℕ → Option Place) (k i : ℕ) (p : Place) (b : Bool) → (i == k) ≡ b
+  but-at : (places : ℕ → Option TapPoint) (k i : ℕ) (p : TapPoint) (b : Bool) → (i == k) ≡ b
       → places_but places k p i ≡ (if b then Some p else places i)
   but-at places k i p b e = rw e refl
 
-  pub but-same : (places : ℕ → Option Place) (k : ℕ) (p : Place) → places_but places k p k ≡ Some p
+  pub but-same : (places : ℕ → Option TapPoint) (k : ℕ) (p : TapPoint) → places_but places k p k ≡ Some p
   but-same places k p = but-at places k k p true (grind (arith, common_steps))
 
-  pub but-other : (places : ℕ → Option Place) (k i : ℕ) (p : Place) → i ≢ k → places_but places k p i ≡ places i
+  pub but-other : (places : ℕ → Option TapPoint) (k i : ℕ) (p : TapPoint) → i ≢ k → places_but places k p i ≡ places i
   but-other places k i p other = but-at places k i p false (grind (arith, common_steps, other))
 
   -- one that has a place there
-  module _ (k : ℕ) (now new : Interfaces) (p there : Place) (h : ArePutUpTo d k old now)
+  module _ (k : ℕ) (now new : Interfaces) (p there : TapPoint) (h : ArePutUpTo d k old now)
       (said : place_of now k ≡ Some p) where
     old-said : place_of old k ≡ Some p
     old-said = sym (h.behind k (omega arith)) ∙ said

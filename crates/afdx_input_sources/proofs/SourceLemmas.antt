@@ -14,7 +14,7 @@ use Rattle.afdx_input_files.proofs.HeldLemmas.{Gives-then}
 use Rattle.afdx_input_files.specs.Reading.{state_of, latest, Tells, SaysFirst}
 use Rattle.afdx_input_files.specs.Recordings.{State, Numbered, Over, Faulted, totals_by, most_numbers}
 use Rattle.afdx_input_lines.specs.declared.next.Next.TheVariants as next
-use Rattle.afdx_input_sources.specs.declared.counts.Counts.{Counts}
+use Rattle.afdx_input_sources.specs.declared.counts.SkipCounts.{SkipCounts}
 use Rattle.afdx_input_sources.specs.declared.becoming.RecordingOptions.{RecordingOptions}
 use Rattle.afdx_input_sources.specs.declared.number.AsRead.{AsRead}
 use Rattle.afdx_input_sources.specs.declared.number.Number.{Number}
@@ -143,7 +143,7 @@ end-well n m any has e f is =
 
 -- ---- few are counted
 
-skip-adds : (r : reason.Skipped) (counts : Counts) → skipped_in (skip_one r counts) ≡ skipped_in counts + 1
+skip-adds : (r : reason.Skipped) (counts : SkipCounts) → skipped_in (skip_one r counts) ≡ skipped_in counts + 1
 unfolding skipped_in skip_one
 skip-adds why.NoFrame counts = omega arith
 skip-adds why.LeftOut counts = omega arith
@@ -152,7 +152,7 @@ skip-adds why.UnknownSender counts = omega arith
 skip-adds why.NoNetwork counts = omega arith
 skip-adds why.BeforeOrigin counts = omega arith
 
-skip-keeps : (r : reason.Skipped) (counts : Counts) → (skip_one r counts).claimed ≡ counts.claimed
+skip-keeps : (r : reason.Skipped) (counts : SkipCounts) → (skip_one r counts).claimed ≡ counts.claimed
 unfolding skip_one
 skip-keeps why.NoFrame counts = refl
 skip-keeps why.LeftOut counts = refl
@@ -161,7 +161,7 @@ skip-keeps why.UnknownSender counts = refl
 skip-keeps why.NoNetwork counts = refl
 skip-keeps why.BeforeOrigin counts = refl
 
-skip-passes : (r : reason.Skipped) (counts : Counts) → (skip_one r counts).contradicted ≡ counts.contradicted
+skip-passes : (r : reason.Skipped) (counts : SkipCounts) → (skip_one r counts).contradicted ≡ counts.contradicted
 unfolding skip_one
 skip-passes why.NoFrame counts = refl
 skip-passes why.LeftOut counts = refl
@@ -170,7 +170,7 @@ skip-passes why.UnknownSender counts = refl
 skip-passes why.NoNetwork counts = refl
 skip-passes why.BeforeOrigin counts = refl
 
-take-keeps : (b d : Bool) (counts : Counts) → skipped_in (take_one b d counts) ≡ skipped_in counts
+take-keeps : (b d : Bool) (counts : SkipCounts) → skipped_in (take_one b d counts) ≡ skipped_in counts
 unfolding take_one skipped_in
 take-keeps b d counts = refl
 
@@ -178,25 +178,26 @@ more-adds : (b : Bool) (n : ℕ) → more_if b n ≤ n + 1
 more-adds true n = omega arith
 more-adds false n = omega arith
 
-take-adds : (b d : Bool) (counts : Counts) → (take_one b d counts).claimed ≤ counts.claimed + 1
+take-adds : (b d : Bool) (counts : SkipCounts) → (take_one b d counts).claimed ≤ counts.claimed + 1
 unfolding take_one
 take-adds b d counts = more-adds b counts.claimed
 
-take-against : (b d : Bool) (counts : Counts) → (take_one b d counts).contradicted ≤ counts.contradicted + 1
+take-against : (b d : Bool) (counts : SkipCounts) → (take_one b d counts).contradicted ≤ counts.contradicted + 1
 unfolding take_one
 take-against b d counts = more-adds d counts.contradicted
 
-skipped-next : (n : Number) (counts : Counts) (m : ℕ) → skipped_in counts ≤ m → skipped_in (count_one n counts) ≤ suc m
+skipped-next : (n : Number) (counts : SkipCounts) (m : ℕ) → skipped_in counts ≤ m →
+    skipped_in (count_one n counts) ≤ suc m
 skipped-next (Arrival found) counts m h =
     let e = take-keeps found.is_claimed found.is_contradicted counts in omega (arith, h, e)
 skipped-next (Skipped r) counts m h = let e = skip-adds r counts in omega (arith, h, e)
 
-claimed-next : (n : Number) (counts : Counts) (m : ℕ) → counts.claimed ≤ m → (count_one n counts).claimed ≤ suc m
+claimed-next : (n : Number) (counts : SkipCounts) (m : ℕ) → counts.claimed ≤ m → (count_one n counts).claimed ≤ suc m
 claimed-next (Arrival found) counts m h =
     let e = take-adds found.is_claimed found.is_contradicted counts in omega (arith, h, e)
 claimed-next (Skipped r) counts m h = let e = skip-keeps r counts in omega (arith, h, e)
 
-against-next : (n : Number) (counts : Counts) (m : ℕ) → counts.contradicted ≤ m
+against-next : (n : Number) (counts : SkipCounts) (m : ℕ) → counts.contradicted ≤ m
     → (count_one n counts).contradicted ≤ suc m
 against-next (Arrival found) counts m h =
     let e = take-against found.is_claimed found.is_contradicted counts in omega (arith, h, e)

@@ -16,7 +16,7 @@ use Rattle.afdx_config.specs.Switches.{NamedRows}
 use Rattle.afdx_input_sources.specs.Claims.{byte_ns_at, time_in, entry_among, entry_from, of_system, own_systems}
 use Rattle.afdx_input_sources.specs.Claims.{HaveTimes}
 use Rattle.afdx_input_sources.specs.Places.{entry_at}
-use Rattle.afdx_input_sources.specs.declared.places.Entry.{Entry}
+use Rattle.afdx_input_sources.specs.declared.places.TapPort.{TapPort}
 use Rattle.afdx_input_sources.specs.Tables.{known}
 
 -- nothing stands in a table of nothing
@@ -94,14 +94,14 @@ module _ (key value : SystemRow → ℕ) where
       ∙ sym (ap (λ (all : List SystemRow). of_system key value all n) (drop-at systems place s row))
 
 -- one system more stands somewhere
-among-if : (at port : ℕ) (b : Bool) (rest : Option ℕ) (other : Option Entry)
+among-if : (at port : ℕ) (b : Bool) (rest : Option ℕ) (other : Option TapPort)
     → option_or (option_map (entry_at at) (if b then Some port else rest)) other
     ≡ (if b then Some (entry_at at port) else option_or (option_map (entry_at at) rest) other)
 among-if at port true rest other = refl
 among-if at port false rest other = refl
 
-pub entry-put : (switch : ℕ) (systems : List SystemRow) (place next at : ℕ) (x : Entry) (s : SystemRow)
-    (table : List (Option Entry)) (other : ℕ → Option Entry)
+pub entry-put : (switch : ℕ) (systems : List SystemRow) (place next at : ℕ) (x : TapPort) (s : SystemRow)
+    (table : List (Option TapPort)) (other : ℕ → Option TapPort)
     → next ≡ suc place → at ≡ s.id → x ≡ entry_at switch s.port → slice_get systems place ≡ Some s
     → at < length table
     → ((n : ℕ) → known (slice_get table n) ≡ entry_among switch (drop next systems) n (other n))
@@ -109,7 +109,7 @@ pub entry-put : (switch : ℕ) (systems : List SystemRow) (place next at : ℕ) 
     ≡ entry_among switch (drop place systems) n (other n)
 entry-put switch systems place next at x s table other is here same row within before n =
     known-set table at n x within
-    ∙ rw (here, same) (ap (λ (p : Option Entry). if s.id == n then Some (entry_at switch s.port) else p)
+    ∙ rw (here, same) (ap (λ (p : Option TapPort). if s.id == n then Some (entry_at switch s.port) else p)
     (rw is at (before n)))
     ∙ sym (among-if switch s.port (s.id == n)
     (of_system (λ s. s.id) (λ s. s.port) (drop (suc place) systems) n) (other n))

@@ -6,17 +6,17 @@ use Rattle.std.specs.List.{count_by, find, range_with_len}
 use Rattle.std.specs.Option.{is_some}
 use Rattle.std.specs.Prelude.{cond}
 use Rattle.afdx_input_files.specs.Limits.{most_interfaces}
-use Rattle.afdx_input_sources.specs.declared.places.Place.{Place}
+use Rattle.afdx_input_sources.specs.declared.places.TapPoint.{TapPoint}
 use Rattle.afdx_input_sources.specs.Places.{unused_behind}
 
 -- they are few
-pub few-unused : (count : ℕ) (places : ℕ → Option Place) → unused_behind count places ≤ most_interfaces
+pub few-unused : (count : ℕ) (places : ℕ → Option TapPoint) → unused_behind count places ≤ most_interfaces
 unfolding unused_behind
 few-unused count places =
     let numbers = range_with_len count (4096 - count) in
     omega (arith, count_by-le-length (λ k. is_some (places k)) numbers, length-range_with_len count (4096 - count))
 
-module _ (places : ℕ → Option Place) where
+module _ (places : ℕ → Option TapPoint) where
   -- those that have a place, from this one on
   abbrev pub named_from : ℕ → ℕ
   named_from k = count_by (λ k. is_some (places k)) (range_with_len k (4096 - k))

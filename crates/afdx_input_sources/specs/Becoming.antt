@@ -24,15 +24,15 @@ use Rattle.afdx_input_files.specs.declared.recorded.RecordedFrame.{RecordedFrame
 use Rattle.afdx_input_files.specs.declared.recorded.Recorded.{Recorded}
 use Rattle.afdx_input_files.specs.declared.recorded.Recorded.TheVariants as recorded
 use Rattle.afdx_input_sources.specs.declared.entering.Entrance.{Entrance}
-use Rattle.afdx_input_sources.specs.declared.becoming.Found.{Found}
+use Rattle.afdx_input_sources.specs.declared.becoming.FoundFrame.{FoundFrame}
 use Rattle.afdx_input_sources.specs.declared.becoming.NoArrival.{NoArrival}
 use Rattle.afdx_input_sources.specs.declared.becoming.NoArrival.TheVariants.{Skipped, Faulted}
 use Rattle.afdx_input_sources.specs.declared.becoming.RecordingOptions.{RecordingOptions}
-use Rattle.afdx_input_sources.specs.declared.places.Place.{Place}
+use Rattle.afdx_input_sources.specs.declared.places.TapPoint.{TapPoint}
 use Rattle.afdx_input_sources.specs.declared.skipped.Skipped.TheVariants.{NoFrame, LeftOut, NotAfdx}
 use Rattle.afdx_input_sources.specs.declared.skipped.Skipped.TheVariants.{UnknownSender, NoNetwork}
 use Rattle.afdx_input_sources.specs.declared.skipped.Skipped.TheVariants.{BeforeOrigin}
-use Rattle.afdx_input_sources.specs.declared.places.Entry.{Entry}
+use Rattle.afdx_input_sources.specs.declared.places.TapPort.{TapPort}
 use Rattle.afdx_input_sources.specs.Places.{place_of, role_of, is_left_out, side_of, entry_said, allows}
 use Rattle.afdx_input_sources.specs.Claims.{Ports, side_claimed}
 
@@ -41,7 +41,7 @@ use Rattle.afdx_input_sources.specs.Claims.{Ports, side_claimed}
 -- recording it is, whether it is the second of two, by how many arrivals times may go back, and
 -- whether stamps are those of first bits, of what came in and of what left
 pub record Options : Type 0 where
-  pub place : ℕ → Option Place
+  pub place : ℕ → Option TapPoint
   pub leaves_unsaid : Bool
   pub fcs : Option Bool
   pub origin : Option ℕ
@@ -121,7 +121,7 @@ whole_moment fcs n frame captured = do
 -- ---- where it came in
 
 -- the side that is said: that of the network whose recording it is, or of the place
-abbrev pub side_said : (network : Option Side) → Option Place → Option Side
+abbrev pub side_said : (network : Option Side) → Option TapPoint → Option Side
 side_said network place = option_or network (side_of place)
 
 -- where the frame's bytes claim that it came in, if the place allows for it
@@ -129,15 +129,15 @@ abbrev pub only_if : {X : Type 0} → (X → Bool) → Option X → Option X
 only_if holds (Some x) = if holds x then Some x else None
 only_if holds None = None
 
-abbrev pub entry_claimed : Option Place → Ports → List ℕ → Option Entry
+abbrev pub entry_claimed : Option TapPoint → Ports → List ℕ → Option TapPort
 entry_claimed place ports bytes = only_if (allows place) (ports.entry bytes)
 
 -- where it came in: what the place says, else what its bytes claim
-abbrev pub entry_of : Option Place → Ports → List ℕ → Option Entry
+abbrev pub entry_of : Option TapPoint → Ports → List ℕ → Option TapPort
 entry_of place ports bytes = option_or (entry_said place) (entry_claimed place ports bytes)
 
 -- the side, the switch or the port is taken from the frame's bytes
-abbrev pub is_claimed : (network : Option Side) → Option Place → Ports → Bool
+abbrev pub is_claimed : (network : Option Side) → Option TapPoint → Ports → Bool
 is_claimed network place ports =
     not (is_some (side_said network place))
     || (ports.are_claimed && not (is_some (entry_said place)))
@@ -158,7 +158,7 @@ abbrev pub is_taken : Role → List ℕ → Bool
 is_taken Came bytes = is_some (link_named_by bytes)
 is_taken Left bytes = true
 
-abbrev pub entrance_with : Role → Side → Entry → (claimed contradicted : Bool) → Entrance
+abbrev pub entrance_with : Role → Side → TapPort → (claimed contradicted : Bool) → Entrance
 entrance_with role side entry claimed contradicted = record {
   role = role;
   side = side;
@@ -167,7 +167,7 @@ entrance_with role side entry claimed contradicted = record {
   is_contradicted = contradicted;
 }
 
-unfoldable pub entrance_of : (network : Option Side) → Option Place → Ports → List ℕ →
+unfoldable pub entrance_of : (network : Option Side) → Option TapPoint → Ports → List ℕ →
     Result Entrance NoArrival
 entrance_of network place ports bytes = do
   check (is_taken (role_of place) bytes) (Skipped NotAfdx)
@@ -223,7 +223,7 @@ whole_length (Some true) bytes = length bytes
 whole_length _ bytes = length bytes + 4
 
 -- how long it lasts where it came in, or left, in ns
-abbrev pub line_time : Ports → Entry → Option Bool → List ℕ → ℕ
+abbrev pub line_time : Ports → TapPort → Option Bool → List ℕ → ℕ
 line_time ports entry has_sequence bytes =
     whole_length has_sequence bytes * unwrap_or (ports.byte_ns entry.switch entry.port) 0
 
@@ -263,7 +263,7 @@ abbrev pub is_before : Option ℕ → ℕ → Bool
 is_before (Some origin) moment = nat_lt moment origin
 is_before None moment = false
 
-abbrev pub found_with : (is_second : Bool) → ℕ → Entrance → FrameKind → Found
+abbrev pub found_with : (is_second : Bool) → ℕ → Entrance → FrameKind → FoundFrame
 found_with is_second moment entrance kind = record {
   moment = moment;
   role = entrance.role;
@@ -278,7 +278,7 @@ found_with is_second moment entrance kind = record {
 
 -- what frame n becomes
 unfoldable pub frame_becomes : Options → Ports → (n : ℕ) → RecordedFrame → List ℕ →
-    Result Found NoArrival
+    Result FoundFrame NoArrival
 frame_becomes options ports n frame bytes = do
   check (not (is_left_out options.leaves_unsaid (options.place frame.interface))) (Skipped LeftOut)
   stamp ← whole_moment options.fcs n frame (length bytes)
@@ -291,6 +291,6 @@ frame_becomes options ports n frame bytes = do
   Ok (found_with options.is_second moment entrance (kind_used kind bytes))
 
 -- the same of whatever takes the number n
-abbrev pub becomes : Options → Ports → (n : ℕ) → Recorded → List ℕ → Result Found NoArrival
+abbrev pub becomes : Options → Ports → (n : ℕ) → Recorded → List ℕ → Result FoundFrame NoArrival
 becomes options ports n recorded.NoFrame bytes = Err (Skipped NoFrame)
 becomes options ports n (recorded.Frame frame) bytes = frame_becomes options ports n frame bytes

@@ -13,7 +13,7 @@ use Rattle.afdx_config.specs.Switches.{NamedRows}
 use Rattle.afdx_config.specs.declared.describing.Described.{Described}
 use Rattle.afdx_config.specs.declared.describing.Described.TheVariants as described
 use Rattle.afdx_input_sources.specs.Places.{entry_at}
-use Rattle.afdx_input_sources.specs.declared.places.Entry.{Entry}
+use Rattle.afdx_input_sources.specs.declared.places.TapPort.{TapPort}
 use Rattle.afdx_input_sources.specs.Tables.{known}
 use Rattle.afdx_input_sources.specs.declared.senders.SystemPorts.{SystemPorts}
 use Rattle.afdx_input_sources.specs.declared.senders.SystemPorts.TheVariants.{One, BySender}
@@ -42,7 +42,7 @@ side_claimed bytes = option_and_then side_named (slice_get bytes 11)
 -- it; and how long a byte lasts on the line of each port of a switch, in ns, if a system has it
 pub record Ports : Type 0 where
   pub are_claimed : Bool
-  pub entry : List ℕ → Option Entry
+  pub entry : List ℕ → Option TapPort
   pub byte_ns : (switch port : ℕ) → Option ℕ
 
 -- all at this port of one switch, of which no more is known
@@ -72,12 +72,12 @@ abbrev pub byte_ns_at : List SystemRow → ℕ → Option ℕ
 byte_ns_at systems port = of_system (λ s. s.port) byte_ns systems port
 
 -- where the system stands that has this number, of these at a switch and else of some others
-abbrev pub entry_among : ℕ → List SystemRow → ℕ → (other : Option Entry) → Option Entry
+abbrev pub entry_among : ℕ → List SystemRow → ℕ → (other : Option TapPort) → Option TapPort
 entry_among at systems number other =
     option_or (option_map (entry_at at) (port_of_system systems number)) other
 
 -- where the first system of all switches stands that has this number; the first switch is `at`
-unfoldable pub entry_from : ℕ → List Rows → ℕ → Option Entry
+unfoldable pub entry_from : ℕ → List Rows → ℕ → Option TapPort
 entry_from at [] number = None
 entry_from at (t ∷ switches) number =
     entry_among at (own_systems t) number (entry_from (at + 1) switches number)

@@ -4,13 +4,13 @@ use Rattle.std.specs.List.{All}
 use Rattle.std.specs.Ordering.{nat_cmp, flip_args, on}
 use Rattle.std.specs.declared.cmp.Ordering.{Ordering}
 use Rattle.afdx_input_sources.specs.Engine.{Item, item_of}
-use Rattle.afdx_input_sources.specs.declared.becoming.Found.{Found}
+use Rattle.afdx_input_sources.specs.declared.becoming.FoundFrame.{FoundFrame}
 use Rattle.afdx_input_sources.specs.declared.number.Number.{Number}
 use Rattle.afdx_input_sources.specs.declared.number.Number.TheVariants.{Arrival}
 use Rattle.afdx_input_sources.specs.Ordering.{moment_of}
 
 -- an arrival that is held
-abbrev pub arrival_item : ℕ → Found → List ℕ → Item Number
+abbrev pub arrival_item : ℕ → FoundFrame → List ℕ → Item Number
 arrival_item number found bytes = item_of number (Arrival found) bytes
 
 -- by their moments, and by their numbers where these are the same

@@ -12,7 +12,7 @@ use Rattle.afdx_input_sources.specs.Lists.{latest_in}
 use Rattle.afdx_input_sources.specs.Listed.{frames}
 use Rattle.afdx_input_lines.specs.FrameLines.{frame_bytes}
 use Rattle.afdx_input_lines.specs.declared.frame_line.FrameKind.{FrameKind}
-use Rattle.afdx_input_sources.specs.declared.places.Entry.{Entry}
+use Rattle.afdx_input_sources.specs.declared.places.TapPort.{TapPort}
 use Rattle.afdx_input_sources.specs.declared.timed_numbers.TimedNumbers.{TimedNumbers}
 use Rattle.afdx_input_sources.specs.declared.timed_pair.TimedPair.{TimedPair}
 use Rattle.afdx_input_sources.specs.Becoming.{Options, message_with, options_of, seal_with}
@@ -63,7 +63,7 @@ ArrivalsOfBothAreInOrder = (of_a of_b : Options) (ports : Ports) (a b : Recordin
 
 -- where two ways to know a port agree, arrivals came in at the same ports
 abbrev pub EntriesAgree : Type 0
-EntriesAgree = (options : Options) (p q : Ports) (entry : Entry) → Agree p q →
+EntriesAgree = (options : Options) (p q : Ports) (entry : TapPort) → Agree p q →
     IsEntry options p entry → IsEntry options q entry
 
 module _ {R : Type 0} (remaining : R → Option (List ℕ)) where

@@ -6,7 +6,7 @@ use Rattle.afdx_input_files.specs.Recordings.{Recording, Ending, Faulted}
 use Rattle.afdx_input_sources.specs.Engine.{Item}
 use Rattle.afdx_input_sources.specs.declared.number.Number.{Number}
 use Rattle.afdx_input_sources.specs.declared.counts.Tally.{Tally}
-use Rattle.afdx_input_sources.specs.declared.places.Place.{Place}
+use Rattle.afdx_input_sources.specs.declared.places.TapPoint.{TapPoint}
 use Rattle.afdx_input_sources.specs.Becoming.{Options}
 use Rattle.afdx_input_sources.specs.Claims.{Ports}
 use Rattle.afdx_input_sources.specs.Places.{first_unused_behind, unused_behind}
@@ -92,7 +92,7 @@ pub record Sequence : Type 0 where
   pub ending : Ending
   pub tally : Tally
 
-abbrev pub tally_of : (ℕ → Option Place) → Outcome → Tally
+abbrev pub tally_of : (ℕ → Option TapPoint) → Outcome → Tally
 tally_of place outcome = record {
   numbers = length outcome.numbers;
   counts = counts_of outcome.numbers;
@@ -106,7 +106,7 @@ ending_or (Some n) ending = Faulted (TimeBack n)
 ending_or None ending = ending
 
 -- what is read, put in order
-abbrev pub ordered : (most : ℕ) → (ℕ → Option Place) → Outcome → Sequence
+abbrev pub ordered : (most : ℕ) → (ℕ → Option TapPoint) → Outcome → Sequence
 ordered most place outcome =
     let all = forward most outcome.numbers in
     record {

@@ -9,11 +9,11 @@ use Rattle.afdx_input_sources.specs.Places.{names_of, place_of}
 use Rattle.afdx_input_sources.specs.declared.becoming.RecordingOptions.{RecordingOptions}
 use Rattle.afdx_input_sources.specs.declared.pair_options.PairOptions.{PairOptions}
 use Rattle.afdx_input_sources.specs.declared.places.Interfaces.{Interfaces}
-use Rattle.afdx_input_sources.specs.declared.places.Place.{Place}
-use Rattle.afdx_input_sources.specs.declared.places.Place.TheVariants.{AtNamed, AtPort, AtSwitch, Left}
+use Rattle.afdx_input_sources.specs.declared.places.TapPoint.{TapPoint}
+use Rattle.afdx_input_sources.specs.declared.places.TapPoint.TheVariants.{AtNamed, AtPort, AtSwitch, Left}
 
 -- where there is one switch on a side none has a name
-abbrev pub place_at_one : Place → Option Place
+abbrev pub place_at_one : TapPoint → Option TapPoint
 place_at_one (AtNamed side name port) = None
 place_at_one (AtSwitch side switch port) = None
 place_at_one place = Some place
@@ -28,15 +28,15 @@ module _ (switches : List NamedRows) where
   is_free k (Some port) = not (is_some (far_end switches k port))
   is_free k None = true
 
-  abbrev pub at_switch : Side → (port : Option ℕ) → ℕ → Option Place
+  abbrev pub at_switch : Side → (port : Option ℕ) → ℕ → Option TapPoint
   at_switch side port k = if is_free k port then Some (AtSwitch side k port) else None
 
-  abbrev pub at_known : Side → (port : Option ℕ) → ℕ → Option Place
+  abbrev pub at_known : Side → (port : Option ℕ) → ℕ → Option TapPoint
   at_known side port k = if nat_lt k (length switches) then at_switch side port k else None
 
   -- where there are several a port alone is at none of them, and a name is that of one; nothing is
   -- said of what left
-  abbrev pub place_among : (names : List (List ℕ)) → Place → Option Place
+  abbrev pub place_among : (names : List (List ℕ)) → TapPoint → Option TapPoint
   place_among names (AtPort side port) = None
   place_among names (Left side port) = None
   place_among names (AtNamed side name port) =
@@ -45,7 +45,7 @@ module _ (switches : List NamedRows) where
   place_among names place = Some place
 
 -- a place in a configuration, if it is one there
-abbrev pub place_in : Described → (names : List (List ℕ)) → Place → Option Place
+abbrev pub place_in : Described → (names : List (List ℕ)) → TapPoint → Option TapPoint
 place_in (One t) names place = place_at_one place
 place_in (Several switches) names place = place_among switches names place
 
@@ -58,7 +58,7 @@ module _ (d : Described) where
   -- or one is none
   pub record AreMisplaced (old : Interfaces) : Type 0 where
     pub interface : ℕ
-    pub place : Place
+    pub place : TapPoint
     pub said : place_of old interface ≡ Some place
     pub none : place_in d (names_of old) place ≡ None
 

@@ -6,10 +6,10 @@ use Rattle.afdx_input_lines.specs.declared.recording_fault.RecordingFault.{Recor
 use Rattle.afdx_input_lines.specs.declared.recording_fault.RecordingFault.TheVariants.{NoArrival}
 use Rattle.afdx_input_files.specs.Recordings.{Numbered, Recording, Totals, Ending, Over, Faulted}
 use Rattle.afdx_input_sources.specs.Engine.{Item, item_of}
-use Rattle.afdx_input_sources.specs.declared.becoming.Found.{Found}
+use Rattle.afdx_input_sources.specs.declared.becoming.FoundFrame.{FoundFrame}
 use Rattle.afdx_input_sources.specs.declared.becoming.NoArrival.TheVariants as becomes_no
 use Rattle.afdx_input_sources.specs.declared.becoming.NoArrival as no_arrival
-use Rattle.afdx_input_sources.specs.declared.counts.Counts.{Counts}
+use Rattle.afdx_input_sources.specs.declared.counts.SkipCounts.{SkipCounts}
 use Rattle.afdx_input_sources.specs.declared.number.AsRead.{AsRead}
 use Rattle.afdx_input_sources.specs.declared.number.Number.{Number}
 use Rattle.afdx_input_sources.specs.declared.number.Number.TheVariants.{Arrival, Skipped}
@@ -47,12 +47,12 @@ latest_of [] = 0
 latest_of (x ∷ past) = moment_or x.head (latest_of past)
 
 -- how many were skipped for each reason, and how many arrivals are claimed, and contradicted
-unfoldable pub counts_of : Numbers → Counts
+unfoldable pub counts_of : Numbers → SkipCounts
 counts_of [] = no_counts
 counts_of (x ∷ past) = count_one x.head (counts_of past)
 
 -- a number that becomes this
-abbrev pub number_by : Result Found no_arrival.NoArrival → Result Number RecordingFault
+abbrev pub number_by : Result FoundFrame no_arrival.NoArrival → Result Number RecordingFault
 number_by (Ok found) = Ok (Arrival found)
 number_by (Err (becomes_no.Skipped reason)) = Ok (Skipped reason)
 number_by (Err (becomes_no.Faulted fault)) = Err fault

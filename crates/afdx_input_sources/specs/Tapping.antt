@@ -8,8 +8,8 @@ use Rattle.afdx_frame.specs.declared.link.Side.TheVariants.{A, B}
 use Rattle.afdx_input_lines.specs.declared.role.Role.{Role}
 use Rattle.afdx_input_lines.specs.declared.role.Role.TheVariants as role
 use Rattle.afdx_input_sources.specs.Places.{most_interfaces}
-use Rattle.afdx_input_sources.specs.declared.places.Place.{Place}
-use Rattle.afdx_input_sources.specs.declared.places.Place.TheVariants.{OnSide, AtPort, Left}
+use Rattle.afdx_input_sources.specs.declared.places.TapPoint.{TapPoint}
+use Rattle.afdx_input_sources.specs.declared.places.TapPoint.TheVariants.{OnSide, AtPort, Left}
 use Rattle.afdx_input_sources.specs.declared.taps.TappedPorts.{TappedPorts}
 use Rattle.afdx_input_sources.specs.declared.taps.Taps as code
 
@@ -37,24 +37,24 @@ is_same_side _ _ = false
 
 -- an interface with this place taps all input ports of a side, one of them, or one output port; of
 -- several switches it taps none of one
-abbrev pub taps_at : Place → Taps
+abbrev pub taps_at : TapPoint → Taps
 taps_at (OnSide side) role.Came at port = is_same_side side at
 taps_at (AtPort side entry) role.Came at port = is_same_side side at && port == entry
 taps_at (Left side exit) role.Left at port = is_same_side side at && port == exit
 taps_at _ role at port = false
 
-abbrev pub taps_by : Option Place → Taps
+abbrev pub taps_by : Option TapPoint → Taps
 taps_by (Some place) = taps_at place
 taps_by None = no_taps
 
 -- the first n interfaces do
-unfoldable pub taps_below : (places : ℕ → Option Place) → ℕ → Taps
+unfoldable pub taps_below : (places : ℕ → Option TapPoint) → ℕ → Taps
 taps_below places zero role side port = false
 taps_below places (suc n) role side port =
     taps_below places n role side port || taps_by (places n) role side port
 
 -- all of them
-abbrev pub taps_of : (places : ℕ → Option Place) → Taps
+abbrev pub taps_of : (places : ℕ → Option TapPoint) → Taps
 taps_of places = taps_below places most_interfaces
 
 -- ---- as the program holds them

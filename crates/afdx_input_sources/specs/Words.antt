@@ -4,7 +4,7 @@ use Rattle.std.specs.Prelude.{ℕ, ◌≡◌, List, [], ◌∷◌, ◌++◌, map
 use Rattle.afdx_input_sources.specs.contracts.skipped.Skipped.{the_type}
 use Rattle.afdx_input_sources.specs.declared.skipped.Skipped.{Skipped}
 use Rattle.afdx_input_sources.specs.declared.skipped.TheConstants.{SKIPPED}
-use Rattle.afdx_input_sources.specs.declared.counts.Counts.{Counts}
+use Rattle.afdx_input_sources.specs.declared.counts.SkipCounts.{SkipCounts}
 use Rattle.afdx_input_sources.specs.declared.counts.Tally.{Tally}
 use denote.Enum.Declared.{tag_of}
 
@@ -26,7 +26,7 @@ abbrev pub counted : (word : List ℕ) → ℕ → (rest : List ℕ) → List �
 counted word n rest = word ++ (decimal n ++ rest)
 
 -- how many were skipped for each reason
-abbrev pub reasons_text : Counts → List ℕ
+abbrev pub reasons_text : SkipCounts → List ℕ
 reasons_text counts =
     counted (codes "no-frame ") counts.no_frame (counted (codes " left-out ") counts.left_out
     (counted (codes " not-afdx ") counts.not_afdx

@@ -7,7 +7,7 @@ ghost use Rattle.afdx_input_sources.specs.Claims.{ports_of};
 ghost use Rattle.afdx_input_sources.specs.Places as places;
 
 use crate::entering::entrance_of;
-use crate::places::{Entry, Interfaces, Place};
+use crate::places::{Interfaces, TapPoint, TapPort};
 use crate::senders::SystemPorts;
 use crate::skipped::Skipped;
 use afdx_frame::{Side, fcs};
@@ -79,7 +79,7 @@ impl RecordingOptions {
 
 /// An arrival, or a frame that left, beside its number and its recorded bytes.
 #[derive(Clone, Copy, Debug, PartialEq, Eq)]
-pub struct Found {
+pub struct FoundFrame {
     /// When it came, or left, in ns since 1970.
     pub moment: u64,
     /// Which of both it did.
@@ -202,7 +202,7 @@ fn whole_length(has_sequence: Option<bool>, bytes: &[u8]) -> u128
 }
 
 /// How long a frame lasts where it came in, or left, in ns.
-fn line_time(ports: &SystemPorts, entry: Entry, has_sequence: Option<bool>, bytes: &[u8]) -> u128
+fn line_time(ports: &SystemPorts, entry: TapPort, has_sequence: Option<bool>, bytes: &[u8]) -> u128
     ensures time { result ≡ spec.line_time (ports_of ports.now) entry has_sequence bytes.now }
     ensures small { result < 0x20000000000000000000000000 }
 {
@@ -255,11 +255,11 @@ fn is_before(origin: Option<u64>, moment: u64) -> bool
 }
 
 /// Whether the frames of an interface with this place are left out.
-fn is_left_out(leaves_unsaid: bool, place: Option<Place>) -> bool
+fn is_left_out(leaves_unsaid: bool, place: Option<TapPoint>) -> bool
     ensures { result ≡ places.is_left_out leaves_unsaid place }
 {
     match place {
-        Some(Place::LeftOut) => true,
+        Some(TapPoint::LeftOut) => true,
         Some(_) => false,
         None => leaves_unsaid,
     }
@@ -284,7 +284,7 @@ fn frame_becomes(
     n: u64,
     frame: &RecordedFrame,
     bytes: &[u8],
-) -> Result<Found, NoArrival>
+) -> Result<FoundFrame, NoArrival>
     ensures { result ≡ spec.frame_becomes (options_of options.now) (ports_of ports.now)
         n frame.now bytes.now }
 {
@@ -307,7 +307,7 @@ fn frame_becomes(
     let Some(kind) = kind_with(has_sequence, frame.found_wrong, bytes) else {
         return Err(NoArrival::Faulted(RecordingFault::FcsUnclear(n)));
     };
-    Ok(Found {
+    Ok(FoundFrame {
         moment,
         role: entrance.role,
         is_second: options.is_second,
@@ -335,7 +335,7 @@ pub fn becomes(
     n: u64,
     recorded: &Recorded,
     bytes: &[u8],
-) -> Result<Found, NoArrival>
+) -> Result<FoundFrame, NoArrival>
     ensures { result ≡ spec.becomes (options_of options.now) (ports_of ports.now)
         n recorded.now bytes.now }
 {

@@ -11,7 +11,7 @@ use std::fmt;
 /// How many numbers were skipped for each reason, and how many arrivals are claimed, and how many
 /// contradicted.
 #[derive(Clone, Copy, Debug, PartialEq, Eq)]
-pub struct Counts {
+pub struct SkipCounts {
     pub no_frame: u64,
     pub left_out: u64,
     pub not_afdx: u64,
@@ -24,12 +24,12 @@ pub struct Counts {
     pub contradicted: u64,
 }
 
-impl Counts {
+impl SkipCounts {
     /// None yet.
-    pub fn none() -> Counts
+    pub fn none() -> SkipCounts
         ensures { result ≡ spec.no_counts }
     {
-        Counts {
+        SkipCounts {
             no_frame: 0,
             left_out: 0,
             not_afdx: 0,
@@ -62,12 +62,12 @@ impl Counts {
 
     /// Those of two recordings.
     #[tactic(auto, unfolding(crate::specs::Counting::skipped_in))]
-    fn plus(&self, other: &Counts) -> Counts
+    fn plus(&self, other: &SkipCounts) -> SkipCounts
         requires few { AreFew self.now }
         requires others { AreFew other.now }
         ensures { result ≡ spec.plus_counts self.now other.now }
     {
-        Counts {
+        SkipCounts {
             no_frame: self.no_frame + other.no_frame,
             left_out: self.left_out + other.left_out,
             not_afdx: self.not_afdx + other.not_afdx,
@@ -99,7 +99,7 @@ impl Counts {
 }
 
 /// How many were skipped for each reason: `no-frame 0 left-out 0 ..`.
-impl fmt::Display for Counts {
+impl fmt::Display for SkipCounts {
     ghost use Rattle.std.specs.Prelude.{Some};
     ghost use Rattle.afdx_input_sources.specs.Words.{reasons_text};
 
@@ -123,7 +123,7 @@ impl fmt::Display for Counts {
 #[derive(Clone, Copy, Debug, PartialEq, Eq)]
 pub struct Tally {
     pub numbers: u64,
-    pub counts: Counts,
+    pub counts: SkipCounts,
     /// Frames that the recorder lost by its own word, 2^64 - 1 if it is more.
     pub lost: u64,
     /// Interfaces that options name and the recording doesn't have.

@@ -7,7 +7,7 @@ ghost use Rattle.afdx_input_sources.specs.Claims.{ports_of};
 ghost use Rattle.afdx_input_sources.specs.Places as places;
 
 use crate::becoming::NoArrival;
-use crate::places::{Entry, Place};
+use crate::places::{TapPoint, TapPort};
 use crate::senders::{SystemPorts, side_claimed};
 use crate::skipped::Skipped;
 use afdx_frame::{Side, vl_of};
@@ -18,61 +18,61 @@ use afdx_input_lines::Role;
 pub(crate) struct Entrance {
     pub(crate) role: Role,
     pub(crate) side: Side,
-    pub(crate) entry: Entry,
+    pub(crate) entry: TapPort,
     pub(crate) is_claimed: bool,
     pub(crate) is_contradicted: bool,
 }
 
 /// What the frames of an interface with this place did.
-fn role_of(place: Option<Place>) -> Role
+fn role_of(place: Option<TapPoint>) -> Role
     ensures { result ≡ places.role_of place }
 {
     match place {
-        Some(Place::Left(_, _)) => Role::Left,
+        Some(TapPoint::Left(_, _)) => Role::Left,
         _ => Role::Came,
     }
 }
 
 /// The side that is said: that of the network whose recording it is, or of the place.
-fn side_said(network: Option<Side>, place: Option<Place>) -> Option<Side>
+fn side_said(network: Option<Side>, place: Option<TapPoint>) -> Option<Side>
     ensures { result ≡ spec.side_said network place }
 {
     match (network, place) {
         (Some(side), _) => Some(side),
-        (None, Some(Place::OnSide(side))) => Some(side),
-        (None, Some(Place::AtPort(side, _))) => Some(side),
-        (None, Some(Place::AtNamed(side, _, _))) => Some(side),
-        (None, Some(Place::AtSwitch(side, _, _))) => Some(side),
-        (None, Some(Place::Left(side, _))) => Some(side),
+        (None, Some(TapPoint::OnSide(side))) => Some(side),
+        (None, Some(TapPoint::AtPort(side, _))) => Some(side),
+        (None, Some(TapPoint::AtNamed(side, _, _))) => Some(side),
+        (None, Some(TapPoint::AtSwitch(side, _, _))) => Some(side),
+        (None, Some(TapPoint::Left(side, _))) => Some(side),
         (None, _) => None,
     }
 }
 
 /// The switch and the port, where a place says both.
-fn entry_said(place: Option<Place>) -> Option<Entry>
+fn entry_said(place: Option<TapPoint>) -> Option<TapPort>
     ensures { result ≡ places.entry_said place }
 {
     match place {
-        Some(Place::AtPort(_, port)) => Some(Entry { switch: 0, port }),
-        Some(Place::Left(_, port)) => Some(Entry { switch: 0, port }),
-        Some(Place::AtSwitch(_, switch, Some(port))) => Some(Entry { switch, port }),
+        Some(TapPoint::AtPort(_, port)) => Some(TapPort { switch: 0, port }),
+        Some(TapPoint::Left(_, port)) => Some(TapPort { switch: 0, port }),
+        Some(TapPoint::AtSwitch(_, switch, Some(port))) => Some(TapPort { switch, port }),
         _ => None,
     }
 }
 
 /// Whether a frame may have come in there by what a place says.
-fn allows(place: Option<Place>, entry: Entry) -> bool
+fn allows(place: Option<TapPoint>, entry: TapPort) -> bool
     ensures { result ≡ places.allows place entry }
 {
     match place {
-        Some(Place::AtNamed(_, _, _)) => false,
-        Some(Place::AtSwitch(_, switch, _)) => entry.switch == switch,
+        Some(TapPoint::AtNamed(_, _, _)) => false,
+        Some(TapPoint::AtSwitch(_, switch, _)) => entry.switch == switch,
         _ => true,
     }
 }
 
 /// Where a frame's bytes claim that it came in, if the place allows for it.
-fn entry_claimed(place: Option<Place>, ports: &SystemPorts, bytes: &[u8]) -> Option<Entry>
+fn entry_claimed(place: Option<TapPoint>, ports: &SystemPorts, bytes: &[u8]) -> Option<TapPort>
     ensures { result ≡ spec.entry_claimed place (ports_of ports.now) bytes.now }
 {
     let entry = ports.entry(bytes)?;
@@ -84,7 +84,7 @@ fn entry_claimed(place: Option<Place>, ports: &SystemPorts, bytes: &[u8]) -> Opt
 }
 
 /// Whether the side, the switch or the port is taken from the frame's bytes.
-fn is_claimed(network: Option<Side>, place: Option<Place>, ports: &SystemPorts) -> bool
+fn is_claimed(network: Option<Side>, place: Option<TapPoint>, ports: &SystemPorts) -> bool
     ensures { result ≡ spec.is_claimed network place (ports_of ports.now) }
 {
     side_said(network, place).is_none() || (ports.are_claimed() && entry_said(place).is_none())
@@ -126,7 +126,7 @@ fn is_taken(role: Role, bytes: &[u8]) -> bool
 #[tactic(auto, unfolding(crate::specs::Becoming::entrance_of))]
 pub(crate) fn entrance_of(
     network: Option<Side>,
-    place: Option<Place>,
+    place: Option<TapPoint>,
     ports: &SystemPorts,
     bytes: &[u8],
 ) -> Result<Entrance, NoArrival>

@@ -11,7 +11,7 @@ ghost use Rattle.std.specs.Ordering.{as_partial_cmp};
 ghost use Rattle.afdx_input_sources.specs.Holding as holding;
 ghost use Rattle.afdx_input_sources.specs.Holding.{AreRising, ComesFirst, Leads, arrival_item};
 
-use crate::becoming::Found;
+use crate::becoming::FoundFrame;
 use crate::number::Number;
 use std::alloc::{AllocError, Global};
 use std::cmp::Ordering;
@@ -20,16 +20,16 @@ use std::marker::Model;
 
 /// What is held of an arrival.
 #[derive(Drop)]
-struct Kept {
+struct KeptArrival {
     number: u64,
-    found: Found,
+    found: FoundFrame,
     bytes: Vec<u8>,
 }
 
 /// An arrival that is held, with its bytes, at a place that stays while it is moved about.
 #[derive(Drop)]
 pub struct HeldArrival {
-    kept: Box<Kept>,
+    kept: Box<KeptArrival>,
 }
 
 impl Model for HeldArrival {
@@ -83,13 +83,13 @@ impl HeldArrival {
     fn new(
         alloc: Global,
         number: u64,
-        found: Found,
+        found: FoundFrame,
         bytes: &[u8],
     ) -> Result<HeldArrival, AllocError>
         ensures { IfOk result (λ x. x ≡ arrival_item number found bytes.now) }
     {
         let bytes = Vec::from_slice(alloc, bytes)?;
-        let kept = Kept {
+        let kept = KeptArrival {
             number,
             found,
             bytes,
@@ -100,7 +100,7 @@ impl HeldArrival {
     }
 
     /// Puts another in its place, and in its memory where that is enough.
-    fn replace(&mut self, number: u64, found: Found, bytes: &[u8]) -> Result<(), AllocError>
+    fn replace(&mut self, number: u64, found: FoundFrame, bytes: &[u8]) -> Result<(), AllocError>
         ensures { OnOk result (self.new ≡ arrival_item number found bytes.now) }
     {
         let kept = &mut *self.kept;
@@ -157,7 +157,7 @@ fn held_arrival(
     alloc: Global,
     room: Option<HeldArrival>,
     number: u64,
-    found: Found,
+    found: FoundFrame,
     bytes: &[u8],
 ) -> Result<HeldArrival, AllocError>
     ensures { IfOk result (λ x. x ≡ arrival_item number found bytes.now) }
@@ -188,7 +188,7 @@ fn is_late_first(queue: &VecDeque<HeldArrival>, late: &BinaryHeap<HeldArrival>) 
 
 /// Arrivals that are held. What is known of them is a list, in any order.
 #[derive(Drop)]
-pub struct Held {
+pub struct HeldArrivals {
     /// Those that came in order.
     queue: VecDeque<HeldArrival>,
     /// The rank of the last that came so.
@@ -197,7 +197,7 @@ pub struct Held {
     late: BinaryHeap<HeldArrival>,
 }
 
-impl Model for Held {
+impl Model for HeldArrivals {
     ghost use Rattle.std.specs.Prelude.{List, ◌++◌};
     ghost use Rattle.std.specs.BinaryHeap.{IsHeap, heap_items};
     ghost use Rattle.afdx_input_sources.specs.Engine.{Item};
@@ -213,12 +213,12 @@ impl Model for Held {
         × AreBehind held.queue.items held.newest };
 }
 
-impl Held {
+impl HeldArrivals {
     /// None is held.
-    pub fn new(alloc: Global) -> Held
+    pub fn new(alloc: Global) -> HeldArrivals
         ensures { result ≡ [] }
     {
-        Held {
+        HeldArrivals {
             queue: VecDeque::new(alloc),
             newest: 0,
             late: BinaryHeap::new(alloc),
@@ -239,7 +239,7 @@ impl Held {
         alloc: Global,
         room: Option<HeldArrival>,
         number: u64,
-        found: Found,
+        found: FoundFrame,
         bytes: &[u8],
     ) -> Result<(), AllocError>
         ensures { OnOk result

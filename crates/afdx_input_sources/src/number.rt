@@ -3,7 +3,7 @@
 ghost use Rattle.afdx_input_sources.specs.NumberLines.{NumberFollows, ReadFollows, number_order};
 
 use crate::ahead::InOrder;
-use crate::becoming::Found;
+use crate::becoming::FoundFrame;
 use crate::engine::Head;
 use crate::skipped::Skipped;
 
@@ -11,7 +11,7 @@ use crate::skipped::Skipped;
 #[derive(Clone, Copy, Debug, PartialEq, Eq)]
 pub enum Number {
     /// An arrival, or a frame that left.
-    Arrival(Found),
+    Arrival(FoundFrame),
     /// It is skipped.
     Skipped(Skipped),
 }

@@ -9,9 +9,9 @@ ghost use Rattle.afdx_input_sources.specs.OrderedSource.{HasOrdered, HasStoppedO
 ghost use Rattle.afdx_input_sources.specs.OrderedSteps.{HandsOn, IsInTime, TakesIn, left_in_order, steps_left};
 ghost use Rattle.afdx_input_sources.specs.Sequences.{Numbers};
 
-use crate::becoming::Found;
+use crate::becoming::FoundFrame;
 use crate::engine::Source;
-use crate::held::{Held, HeldArrival};
+use crate::held::{HeldArrival, HeldArrivals};
 use crate::number::{AsRead, Number};
 use afdx_input_lines::{Next, Progress, RecordingFault, RunFault};
 use std::alloc::Global;
@@ -36,7 +36,7 @@ pub struct Ordered<S> {
     pub source: S,
     alloc: Global,
     most: usize,
-    held: Held,
+    held: HeldArrivals,
     /// The arrival that was handed on last of those that were held.
     last: Option<HeldArrival>,
     /// Whether that was given last, and not the number that was read last.
@@ -59,7 +59,7 @@ impl<S> Ordered<S> {
             source,
             alloc,
             most: most as usize,
-            held: Held::new(alloc),
+            held: HeldArrivals::new(alloc),
             last: None,
             is_held: false,
             latest: 0,
@@ -172,7 +172,7 @@ fn take_in<I, S: Source<AsRead, I>>(ordered: &mut Ordered<S>) -> Result<Progress
 #[inline(always)]
 fn hold_one<I, S: Source<AsRead, I>>(
     ordered: &mut Ordered<S>,
-    found: Found,
+    found: FoundFrame,
 ) -> Result<Progress, RunFault>
     requires arrival { (S.current ordered.old.source).head.becomes ≡ Number.Arrival found }
     requires in_time { IsInTime (S.current ordered.old.source) ordered.old }

@@ -12,7 +12,7 @@ use std::alloc::{AllocError, Global};
 
 /// A port of a switch, at which frames come in, or leave.
 #[derive(Clone, Copy, Debug, PartialEq, Eq)]
-pub struct Entry {
+pub struct TapPort {
     /// The place of the switch among those of its side, from 0; 0 where there is one.
     pub switch: u8,
     /// 1 to 24.
@@ -21,7 +21,7 @@ pub struct Entry {
 
 /// Where the frames of an interface came in, or where they left.
 #[derive(Clone, Copy, Debug, PartialEq, Eq)]
-pub enum Place {
+pub enum TapPoint {
     /// Nowhere: they are left out.
     LeftOut,
     /// On this side.
@@ -42,7 +42,7 @@ pub enum Place {
 /// Where the frames of each interface came in, or left, where that is said.
 #[derive(Debug, Drop)]
 pub struct Interfaces {
-    places: Vec<Option<Place>>,
+    places: Vec<Option<TapPoint>>,
     /// The names of switches that places mean by their numbers.
     names: Vec<String>,
     ghost room: { vec_len places ≡ most_interfaces },
@@ -67,7 +67,7 @@ impl Interfaces {
 
     /// Where the frames of this interface came in, or left, if that is said.
     #[tactic(auto, unfolding(crate::specs::Places::place_of))]
-    pub fn place(&self, interface: u16) -> Option<Place>
+    pub fn place(&self, interface: u16) -> Option<TapPoint>
         ensures { result ≡ place_of self.now interface }
     {
         match self.places.get(usize::from(interface)) {
@@ -105,7 +105,7 @@ impl Interfaces {
     /// Says where the frames of this interface came in, or left, in the place of what was said
     /// before.
     #[tactic(auto, unfolding(crate::specs::Places::place_of))]
-    pub fn put(&mut self, interface: u16, place: Place)
+    pub fn put(&mut self, interface: u16, place: TapPoint)
         requires { interface < most_interfaces }
         ensures place { (k : ℕ) →
             place_of self.new k ≡ places_but (place_of self.old) interface place k }

@@ -8,7 +8,7 @@ ghost use Rattle.afdx_input_sources.specs.Placing.{PairIsMisplaced, PairIsPlaced
 
 use crate::becoming::RecordingOptions;
 use crate::pair_options::PairOptions;
-use crate::places::Place;
+use crate::places::TapPoint;
 use afdx_config::{Described, SwitchId, Switches};
 use afdx_frame::Side;
 
@@ -24,12 +24,17 @@ fn is_free(switches: &Switches, switch: SwitchId, port: Option<u8>) -> bool
 }
 
 /// A switch and, if it is said, a port of it, unless a cable is there.
-fn at_switch(switches: &Switches, side: Side, port: Option<u8>, switch: SwitchId) -> Option<Place>
+fn at_switch(
+    switches: &Switches,
+    side: Side,
+    port: Option<u8>,
+    switch: SwitchId,
+) -> Option<TapPoint>
     requires { switch.0 < length switches.now }
     ensures { result ≡ spec.at_switch switches.now side port switch.0 }
 {
     if is_free(switches, switch, port) {
-        Some(Place::AtSwitch(side, switch.0, port))
+        Some(TapPoint::AtSwitch(side, switch.0, port))
     } else {
         None
     }
@@ -46,17 +51,17 @@ fn switch_by(switches: &Switches, names: &[String], number: u16) -> Option<Switc
 }
 
 /// A place at one of several switches, if it is one.
-fn place_among(switches: &Switches, names: &[String], place: Place) -> Option<Place>
+fn place_among(switches: &Switches, names: &[String], place: TapPoint) -> Option<TapPoint>
     ensures { result ≡ spec.place_among switches.now (map string_bytes names.now) place }
 {
     match place {
-        Place::LeftOut | Place::OnSide(_) => Some(place),
-        Place::AtPort(_, _) | Place::Left(_, _) => None,
-        Place::AtNamed(side, number, port) => {
+        TapPoint::LeftOut | TapPoint::OnSide(_) => Some(place),
+        TapPoint::AtPort(_, _) | TapPoint::Left(_, _) => None,
+        TapPoint::AtNamed(side, number, port) => {
             let switch = switch_by(switches, names, number)?;
             at_switch(switches, side, port, switch)
         }
-        Place::AtSwitch(side, switch, port) => {
+        TapPoint::AtSwitch(side, switch, port) => {
             if usize::from(switch) < switches.count() {
                 at_switch(switches, side, port, SwitchId(switch))
             } else {
@@ -67,17 +72,18 @@ fn place_among(switches: &Switches, names: &[String], place: Place) -> Option<Pl
 }
 
 /// A place where there is one switch on a side, if it is one.
-fn place_at_one(place: Place) -> Option<Place>
+fn place_at_one(place: TapPoint) -> Option<TapPoint>
     ensures { result ≡ spec.place_at_one place }
 {
     match place {
-        Place::LeftOut | Place::OnSide(_) | Place::AtPort(_, _) | Place::Left(_, _) => Some(place),
-        Place::AtNamed(_, _, _) | Place::AtSwitch(_, _, _) => None,
+        TapPoint::LeftOut | TapPoint::OnSide(_) | TapPoint::AtPort(_, _) | TapPoint::Left(_, _) =>
+            Some(place),
+        TapPoint::AtNamed(_, _, _) | TapPoint::AtSwitch(_, _, _) => None,
     }
 }
 
 /// A place in a configuration, if it is one there.
-pub(crate) fn place_in(described: &Described, names: &[String], place: Place) -> Option<Place>
+pub(crate) fn place_in(described: &Described, names: &[String], place: TapPoint) -> Option<TapPoint>
     ensures { result ≡ spec.place_in described.now (map string_bytes names.now) place }
 {
     match described {

@@ -11,7 +11,7 @@ ghost use Rattle.afdx_input_sources.specs.RecordingSource.{FailsBy, RemembersOne
 ghost use Rattle.afdx_input_sources.specs.Sequences.{Numbers};
 
 use crate::becoming::{NoArrival, RecordingOptions, becomes, first_bytes};
-use crate::counts::{Counts, Tally};
+use crate::counts::{SkipCounts, Tally};
 use crate::engine::Source;
 use crate::number::{AsRead, Number};
 use crate::senders::SystemPorts;
@@ -27,7 +27,7 @@ pub struct ReadRecording {
     options: RecordingOptions,
     ports: SystemPorts,
     numbers: u64,
-    counts: Counts,
+    counts: SkipCounts,
     has_arrival: bool,
     number: AsRead,
 }
@@ -67,7 +67,7 @@ impl ReadRecording {
             options,
             ports,
             numbers: 0,
-            counts: Counts::none(),
+            counts: SkipCounts::none(),
             has_arrival: false,
             number: AsRead {
                 becomes: Number::Skipped(Skipped::NoFrame),

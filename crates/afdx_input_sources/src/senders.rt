@@ -4,9 +4,9 @@ ghost use Rattle.std.specs.Prelude.{◌≡◌, ℕ, Option, IfOk, vec_len, ◌�
 ghost use Rattle.afdx_input_sources.specs.Claims as claims;
 ghost use Rattle.afdx_input_sources.specs.Tables.{known};
 ghost use Rattle.afdx_input_sources.specs.Claims.{Agree, HaveTimes, entry_among, own_systems, ports_of, ports_unsaid};
-ghost use Rattle.afdx_input_sources.specs.declared.places.Entry.{Entry as At};
+ghost use Rattle.afdx_input_sources.specs.declared.places.TapPort.{TapPort as At};
 
-use crate::places::Entry;
+use crate::places::TapPort;
 use afdx_config::{Described, SwitchId, Switches, SystemId, Tables};
 use afdx_frame::Side;
 use std::alloc::{AllocError, Global};
@@ -25,7 +25,7 @@ pub enum SystemPorts {
     /// At that of the system that sent it.
     BySender {
         /// For each number in a source address where the system stands that has it, if one has.
-        entries: Vec<Option<Entry>>,
+        entries: Vec<Option<TapPort>>,
         /// For each switch and each of its ports the time of a byte on the line of the system that
         /// has it, in ns.
         byte_ns: Vec<Vec<Option<u32>>>,
@@ -102,7 +102,7 @@ pub(crate) fn side_claimed(bytes: &[u8]) -> Option<Side>
 }
 
 /// Where the system stands that has this number.
-fn entry_of(entries: &Vec<Option<Entry>>, number: u16) -> Option<Entry>
+fn entry_of(entries: &Vec<Option<TapPort>>, number: u16) -> Option<TapPort>
     ensures { result ≡ known (slice_get entries.now.items number) }
 {
     match entries.get(usize::from(number)) {
@@ -112,7 +112,7 @@ fn entry_of(entries: &Vec<Option<Entry>>, number: u16) -> Option<Entry>
 }
 
 /// Puts for each number of a system of a switch where it stands.
-fn put_entries(tables: &Tables, switch: u8, entries: &mut Vec<Option<Entry>>)
+fn put_entries(tables: &Tables, switch: u8, entries: &mut Vec<Option<TapPort>>)
     requires room { vec_len entries.old ≡ 65536 }
     ensures room { vec_len entries.new ≡ 65536 }
     ensures entries { (other : ℕ → Option At) →
@@ -125,12 +125,12 @@ fn put_entries(tables: &Tables, switch: u8, entries: &mut Vec<Option<Entry>>)
         place -= 1;
         let system = tables.system(SystemId(place as u8));
         let port = system.port;
-        entries[usize::from(system.id)] = Some(Entry { switch, port });
+        entries[usize::from(system.id)] = Some(TapPort { switch, port });
     }
 }
 
 /// Puts for each number of a system of several switches where it stands.
-fn put_all_entries(switches: &Switches, entries: &mut Vec<Option<Entry>>)
+fn put_all_entries(switches: &Switches, entries: &mut Vec<Option<TapPort>>)
     requires room { vec_len entries.old ≡ 65536 }
     requires none { (number : ℕ) → known (slice_get entries.old.items number) ≡ None }
     ensures { (number : ℕ) → known (slice_get entries.new.items number)
@@ -194,7 +194,7 @@ fn times_of_all(alloc: Global, switches: &Switches) -> Result<Vec<Vec<Option<u32
 }
 
 /// For each number of a system of a switch where it stands.
-fn entries_of_one(alloc: Global, tables: &Tables) -> Result<Vec<Option<Entry>>, AllocError>
+fn entries_of_one(alloc: Global, tables: &Tables) -> Result<Vec<Option<TapPort>>, AllocError>
     ensures { IfOk result (λ entries. (number : ℕ) → known (slice_get entries.items number)
         ≡ claims.entry_from 0 (tables.now ∷ []) number) }
 {
@@ -204,7 +204,7 @@ fn entries_of_one(alloc: Global, tables: &Tables) -> Result<Vec<Option<Entry>>, 
 }
 
 /// For each number of a system of several switches where it stands.
-fn entries_of_all(alloc: Global, switches: &Switches) -> Result<Vec<Option<Entry>>, AllocError>
+fn entries_of_all(alloc: Global, switches: &Switches) -> Result<Vec<Option<TapPort>>, AllocError>
     ensures { IfOk result (λ entries. (number : ℕ) → known (slice_get entries.items number)
         ≡ claims.entry_from 0 (map (λ s. s.rows) switches.now) number) }
 {
@@ -214,7 +214,7 @@ fn entries_of_all(alloc: Global, switches: &Switches) -> Result<Vec<Option<Entry
 }
 
 /// A table of nothing for each number that a system may have.
-fn no_entries(alloc: Global) -> Result<Vec<Option<Entry>>, AllocError>
+fn no_entries(alloc: Global) -> Result<Vec<Option<TapPort>>, AllocError>
     ensures room { IfOk result (λ entries. vec_len entries ≡ 65536) }
     ensures none { IfOk result (λ entries. (number : ℕ) →
         known (slice_get entries.items number) ≡ None) }
@@ -265,11 +265,11 @@ impl SystemPorts {
     }
 
     /// Where a frame came in of which no option says it, if it is known.
-    pub fn entry(&self, bytes: &[u8]) -> Option<Entry>
+    pub fn entry(&self, bytes: &[u8]) -> Option<TapPort>
         ensures { result ≡ (ports_of self.now).entry bytes.now }
     {
         match self {
-            SystemPorts::One(port) => Some(Entry {
+            SystemPorts::One(port) => Some(TapPort {
                 switch: 0,
                 port: *port,
             }),
@@ -281,7 +281,7 @@ impl SystemPorts {
     }
 
     /// The time of a byte on the line there, in ns, if a system has the port.
-    pub fn byte_ns(&self, entry: Entry) -> Option<u32>
+    pub fn byte_ns(&self, entry: TapPort) -> Option<u32>
         ensures { result ≡ (ports_of self.now).byte_ns entry.switch entry.port }
     {
         match self {

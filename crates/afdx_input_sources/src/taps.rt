@@ -8,7 +8,7 @@ ghost use Rattle.afdx_input_sources.specs.Places.{place_of};
 ghost use Rattle.afdx_input_sources.specs.Tapping as spec;
 ghost use Rattle.afdx_input_sources.specs.Tapping.{has_port, is_same_side, taps_in};
 
-use crate::places::{Interfaces, Place};
+use crate::places::{Interfaces, TapPoint};
 use afdx_frame::{BySide, Side};
 use afdx_input_files::MOST_INTERFACES;
 use afdx_input_lines::Role;
@@ -108,15 +108,15 @@ impl Taps {
     }
 
     /// Adds those of an interface with this place.
-    fn add(&mut self, place: Place)
+    fn add(&mut self, place: TapPoint)
         ensures { (role : Did) (side : Network) (port : ℕ) → taps_in self.new role side port
             ≡ (taps_in self.old role side port || spec.taps_at place role side port) }
     {
         match place {
-            Place::OnSide(side) => tap_side(&mut self.came, side),
-            Place::AtPort(side, port) => tap_port(&mut self.came, side, port),
-            Place::Left(side, port) => tap_port(&mut self.left, side, port),
-            Place::LeftOut | Place::AtNamed(_, _, _) | Place::AtSwitch(_, _, _) => {}
+            TapPoint::OnSide(side) => tap_side(&mut self.came, side),
+            TapPoint::AtPort(side, port) => tap_port(&mut self.came, side, port),
+            TapPoint::Left(side, port) => tap_port(&mut self.left, side, port),
+            TapPoint::LeftOut | TapPoint::AtNamed(_, _, _) | TapPoint::AtSwitch(_, _, _) => {}
         }
     }
 

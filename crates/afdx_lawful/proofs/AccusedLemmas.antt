@@ -13,7 +13,7 @@ use Rattle.afdx_lawful.specs.Judged.{waiting_of}
 use Rattle.afdx_lawful.specs.Partners.{Waiting, other, partner, waiting}
 use Rattle.afdx_lawful.specs.Right.{AreSilent, IsRightOn, RightIsNotAccused}
 use Rattle.afdx_lawful.specs.Sources.{Came, Source, on_side}
-use Rattle.afdx_lawful.specs.declared.finding.Finding.{Finding}
+use Rattle.afdx_lawful.specs.declared.finding.SenderFinding.{SenderFinding}
 use Rattle.afdx_lawful.proofs.AcceptedLemmas.{come_on}
 use Rattle.afdx_lawful.proofs.RightLemmas.{right_silent}
 
@@ -76,13 +76,13 @@ none_found s x past alone h =
     let none : waiting_of s (other x.side) past ≡ [] =
     cond-false s.is_paired (waiting s (other x.side) (whole_of past)) [] alone in
     cond-true (is_whole x) (found_whole s past x) (flawed s x) first.whole
-    ∙ ap₂ (λ (a b : List Finding). a ++ b) silent (none_with s x (waiting_of s (other x.side) past) none)
+    ∙ ap₂ (λ (a b : List SenderFinding). a ++ b) silent (none_with s x (waiting_of s (other x.side) past) none)
 
 none_coming : (s : Source) (xs : List Came) → s.is_paired ≡ false → AreSilentBoth s xs → found_coming s xs ≡ []
 unfolding found_coming
 none_coming s [] alone h = refl
 none_coming s (x ∷ past) alone h =
-    ap₂ (λ (a : List Finding) (b : List Found). map (found_at x.time x.side) (reverse a) ++ b)
+    ap₂ (λ (a : List SenderFinding) (b : List Found). map (found_at x.time x.side) (reverse a) ++ b)
     (none_found s x past alone h) (none_coming s past alone (both_less s x past h))
 
 both_silent : (s : Source) (xs : List Came) → ComeUpTo s.until xs → ((side : Side) → IsRightOn s side xs) →

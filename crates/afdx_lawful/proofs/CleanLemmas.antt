@@ -12,8 +12,8 @@ use Rattle.afdx_lawful.specs.Flaws.{flaw_in, flaw_of, is_frame, is_whole, whole_
 use Rattle.afdx_lawful.specs.Judged.{found_at, found_coming, found_of, found_whole, found_with, waiting_of}
 use Rattle.afdx_lawful.specs.Partners.{other, partner}
 use Rattle.afdx_lawful.specs.Sources.{Came, Source, on_side}
-use Rattle.afdx_lawful.specs.declared.finding.Finding.{Finding}
-use Rattle.afdx_lawful.specs.declared.finding.Finding.TheVariants.{Unlawful}
+use Rattle.afdx_lawful.specs.declared.finding.SenderFinding.{SenderFinding}
+use Rattle.afdx_lawful.specs.declared.finding.SenderFinding.TheVariants.{Unlawful}
 use Rattle.afdx_lawful.specs.declared.finding.Flaw.{Flaw}
 
 -- ---- lists of nothing
@@ -29,7 +29,7 @@ none_mapped f (x ∷ xs) h = absurd (cc h)
 none_reversed : {X : Type 0} (xs : List X) → reverse xs ≡ [] → xs ≡ []
 none_reversed xs h = sym (reverse-reverse xs) ∙ ap reverse h
 
-none_where : (b : Bool) (f : Finding) → (if b then [] else f ∷ []) ≡ [] → b ≡ true
+none_where : (b : Bool) (f : SenderFinding) → (if b then [] else f ∷ []) ≡ [] → b ≡ true
 none_where true f h = refl
 none_where false f h = absurd (cc h)
 

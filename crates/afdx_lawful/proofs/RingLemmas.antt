@@ -11,7 +11,7 @@ use Rattle.afdx_lawful.specs.Limits.{AreLimits}
 use Rattle.afdx_lawful.specs.Partners.{may_pair, partner, without_first}
 use Rattle.afdx_lawful.specs.Rings.{all_as, pairs, waiting_as}
 use Rattle.afdx_lawful.specs.Sources.{Came, Source}
-use Rattle.afdx_lawful.specs.declared.limits.Limits.{Limits}
+use Rattle.afdx_lawful.specs.declared.limits.SenderLimits.{SenderLimits}
 use Rattle.afdx_lawful.specs.declared.waits.Waits.{Waits}
 
 -- ---- lists
@@ -108,7 +108,7 @@ module _ {X Y : Type 0} (f : X → Y) (p : X → Bool) (q : Y → Bool) (same : 
 
 -- ---- those that wait
 
-module _ (s : Source) (side : Side) (x : Came) (limits : Limits) (time number : ℕ) (are : AreLimits s limits)
+module _ (s : Source) (side : Side) (x : Came) (limits : SenderLimits) (time number : ℕ) (are : AreLimits s limits)
     (time-is : x.time ≡ time) (number-is : number_in x ≡ number) where
   alike : (w : Waits) → pairs limits time number w ≡ may_pair s x (waiting_as side w)
   unfolding may_pair number_in

@@ -7,8 +7,8 @@ use Rattle.afdx_frame.specs.Parts.{number_of_frame}
 use Rattle.afdx_police.specs.Spacing.{level_at}
 use Rattle.afdx_lawful.specs.Flaws.{flaw_of}
 use Rattle.afdx_lawful.specs.Sources.{Came, Source, cost, fast, room}
-use Rattle.afdx_lawful.specs.declared.finding.Finding.{Finding}
-use Rattle.afdx_lawful.specs.declared.finding.Finding.TheVariants.{Unlawful, Number, Soon}
+use Rattle.afdx_lawful.specs.declared.finding.SenderFinding.{SenderFinding}
+use Rattle.afdx_lawful.specs.declared.finding.SenderFinding.TheVariants.{Unlawful, Number, Soon}
 
 -- the sequence number of a whole frame
 unfoldable pub number_in : Came → ℕ
@@ -30,7 +30,7 @@ module _ (s : Source) where
   number_after [] = first_number s.by.start
   number_after (x ∷ past) = Some (next_number (number_in x))
 
-  abbrev pub other_number : Came → Option ℕ → List Finding
+  abbrev pub other_number : Came → Option ℕ → List SenderFinding
   other_number x None = []
   other_number x (Some next) =
       if nat_eq (number_in x) next then [] else Number x.line next ∷ []
@@ -50,15 +50,15 @@ module _ (s : Source) where
   times_with_room [] = []
   times_with_room (x ∷ past) = with_room (times_with_room past) x.time
 
-  abbrev pub too_soon : Came → List ℕ → List Finding
+  abbrev pub too_soon : Came → List ℕ → List SenderFinding
   too_soon x times =
       if has_room times x.time then []
       else Soon x.line (div_ceil (level times x.time - room s) (fast s)) ∷ []
 
-  abbrev pub flawed : Came → List Finding
+  abbrev pub flawed : Came → List SenderFinding
   flawed x = option_to_list (option_map (Unlawful x.line) (flaw_of s x))
 
   -- what is found of it, in its order, after these whole frames of its side
-  unfoldable pub found_alone : List Came → Came → List Finding
+  unfoldable pub found_alone : List Came → Came → List SenderFinding
   found_alone past x =
       flawed x ++ (other_number x (number_after past) ++ too_soon x (times_with_room past))

@@ -8,26 +8,26 @@ use Rattle.afdx_lawful.specs.Alone.{flawed, found_alone, is_empty}
 use Rattle.afdx_lawful.specs.Flaws.{is_copy, is_whole, whole_of}
 use Rattle.afdx_lawful.specs.Partners.{Waiting, is_cut, other, partner, waiting}
 use Rattle.afdx_lawful.specs.Sources.{Came, Source, apart, hold, on_side, slip}
-use Rattle.afdx_lawful.specs.declared.finding.Finding.{Finding}
-use Rattle.afdx_lawful.specs.declared.finding.Finding.TheVariants.{Differs, Apart, Single}
+use Rattle.afdx_lawful.specs.declared.finding.SenderFinding.{SenderFinding}
+use Rattle.afdx_lawful.specs.declared.finding.SenderFinding.TheVariants.{Differs, Apart, Single}
 
 -- a finding with the moment and the side of its line
 pub record Found : Type 0 where
   pub moment : ℕ
   pub side : Side
-  pub finding : Finding
+  pub finding : SenderFinding
 
-abbrev pub found_at : ℕ → Side → Finding → Found
+abbrev pub found_at : ℕ → Side → SenderFinding → Found
 found_at moment side finding = record { moment = moment; side = side; finding = finding }
 
 module _ (s : Source) where
-  abbrev pub too_late : Came → Came → List Finding
+  abbrev pub too_late : Came → Came → List SenderFinding
   too_late x y =
       if nat_le x.time (y.time + apart s x + slip s) then []
       else Apart x.line (x.time - y.time - apart s x) ∷ []
 
   -- what is found of a frame by its partner
-  abbrev pub found_with : Came → Option Waiting → List Finding
+  abbrev pub found_with : Came → Option Waiting → List SenderFinding
   found_with x None = []
   found_with x (Some y) = if is_copy x y.frame then too_late x y.frame else Differs x.line ∷ []
 
@@ -35,13 +35,13 @@ module _ (s : Source) where
   abbrev pub waiting_of : Side → List Came → List Waiting
   waiting_of side xs = if s.is_paired then waiting s side (whole_of xs) else []
 
-  abbrev pub found_whole : List Came → Came → List Finding
+  abbrev pub found_whole : List Came → Came → List SenderFinding
   found_whole past x =
       found_alone s (on_side x.side (whole_of past)) x
       ++ found_with x (partner s x (waiting_of (other x.side) past))
 
   -- what is found of a frame when it comes after all of these, in its order
-  unfoldable pub found_of : List Came → Came → List Finding
+  unfoldable pub found_of : List Came → Came → List SenderFinding
   found_of past x = if is_whole x then found_whole past x else flawed s x
 
   -- what is found when each of these comes

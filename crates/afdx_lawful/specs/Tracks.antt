@@ -3,8 +3,8 @@ use Rattle.std.specs.Prelude.{◌≡◌, ℕ, List, ◌++◌, option_map, option
 use Rattle.afdx_lawful.specs.Alone.{number_after}
 use Rattle.afdx_lawful.specs.Paces.{IsPace}
 use Rattle.afdx_lawful.specs.Sources.{Came, Source}
-use Rattle.afdx_lawful.specs.declared.finding.Finding.{Finding}
-use Rattle.afdx_lawful.specs.declared.finding.Finding.TheVariants.{Unlawful, Number, Soon}
+use Rattle.afdx_lawful.specs.declared.finding.SenderFinding.{SenderFinding}
+use Rattle.afdx_lawful.specs.declared.finding.SenderFinding.TheVariants.{Unlawful, Number, Soon}
 use Rattle.afdx_lawful.specs.declared.track.Alone.{Alone}
 use Rattle.afdx_lawful.specs.declared.track.Track.{Track}
 
@@ -14,7 +14,7 @@ pub record IsTrack (s : Source) (past : List Came) (track : Track) : Type 0 wher
   pub pace : IsPace s past track.pace
 
 -- what is told of a frame of this line, in its order
-abbrev pub told_alone : ℕ → Alone → List Finding
+abbrev pub told_alone : ℕ → Alone → List SenderFinding
 told_alone line a =
     option_to_list (option_map (Unlawful line) a.flaw)
     ++ (option_to_list (option_map (Number line) a.number)

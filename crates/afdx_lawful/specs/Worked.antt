@@ -10,7 +10,7 @@ use Rattle.afdx_conform.specs.Leeway.{Leeway}
 use Rattle.afdx_conform.specs.Leeways.{leeway_with}
 use Rattle.afdx_lawful.specs.Judged.{Found, Judged, found_at, judged_source}
 use Rattle.afdx_lawful.specs.Sources.{Came, Source, came_with}
-use Rattle.afdx_lawful.specs.declared.finding.Finding.TheVariants.{Unlawful, Number, Soon, Differs, Apart, Single}
+use Rattle.afdx_lawful.specs.declared.finding.SenderFinding.TheVariants.{Unlawful, Number, Soon, Differs, Apart, Single}
 use Rattle.afdx_lawful.specs.declared.finding.Flaw.TheVariants.{Damaged, NotItsAddress, Unread}
 
 -- a frame of link 1 with the message `hello` and a byte more, on this network, and what ends it:

@@ -19,7 +19,7 @@ pub enum Flaw {
 
 /// What a system did with a frame, by the frame's line.
 #[derive(Clone, Copy, Debug, PartialEq, Eq)]
-pub enum Finding {
+pub enum SenderFinding {
     /// The frame isn't lawful by itself.
     Unlawful(u64, Flaw),
     /// It has another sequence number than this one, which stands next.

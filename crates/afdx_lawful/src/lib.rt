@@ -15,4 +15,4 @@ mod partners;
 mod track;
 mod waits;
 
-pub use finding::{Finding, Flaw};
+pub use finding::{Flaw, SenderFinding};

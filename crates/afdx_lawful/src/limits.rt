@@ -21,7 +21,7 @@ const GREATEST_SKEW: u64 = 100_000_000;
 /// by `slip` ns; a frame waits `hold` ns for its copy. Each frame raises the level of its side by
 /// `cost`, it falls by `fast` a ns, and a frame has room where it is at most `room`.
 #[derive(Clone, Copy, Debug)]
-pub(crate) struct Limits {
+pub(crate) struct SenderLimits {
     pub fast: u64,
     pub slow: u64,
     pub slip: u64,
@@ -31,19 +31,19 @@ pub(crate) struct Limits {
     pub ghost in_range: { AreInRange fast slow slip hold cost room },
 }
 
-impl Limits {
+impl SenderLimits {
     ghost use Rattle.afdx_lawful.specs.Limits.{AreLimits};
     ghost use Rattle.afdx_lawful.specs.Sources.{Source as Terms};
 
     /// Those of a link of this rule, where stamps and clocks may be off so much.
-    pub fn new(rule: &LinkRule, by: &Leeway) -> Limits
+    pub fn new(rule: &LinkRule, by: &Leeway) -> SenderLimits
         ensures { (s : Terms) → s.rule ≡ rule_of rule.now → s.by ≡ leeway_of by.now →
             AreLimits s result }
     {
         let fast = PARTS + by.drift;
         let slow = PARTS - by.drift;
         let slip = by.slack + by.slack;
-        Limits {
+        SenderLimits {
             fast,
             slow,
             slip,

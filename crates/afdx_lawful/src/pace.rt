@@ -2,7 +2,7 @@
 
 ghost use Rattle.std.specs.Prelude.{◌≡◌, ◌≤◌, List, ◌∷◌, option_map, option_to_list};
 
-use crate::limits::Limits;
+use crate::limits::SenderLimits;
 
 /// The level of a source's side, which each frame that has room raises, in millionths of a ns: what
 /// it was once the last one was charged, and when that came, in ns.
@@ -18,7 +18,7 @@ impl Pace {
     ghost use Rattle.afdx_lawful.specs.Limits.{AreLimits};
     ghost use Rattle.afdx_lawful.specs.Paces.{IsPace};
     ghost use Rattle.afdx_lawful.specs.Sources.{Came, Source as Terms};
-    ghost use Rattle.afdx_lawful.specs.declared.finding.Finding.TheVariants.{Soon};
+    ghost use Rattle.afdx_lawful.specs.declared.finding.SenderFinding.TheVariants.{Soon};
 
     /// Nothing came yet.
     pub fn new() -> Pace
@@ -29,7 +29,7 @@ impl Pace {
 
     /// A frame comes at this time, in ns: by how many ns it comes too soon, if it does. Then it
     /// isn't charged.
-    pub fn come(&mut self, limits: &Limits, time: u64) -> Option<u64>
+    pub fn come(&mut self, limits: &SenderLimits, time: u64) -> Option<u64>
         ensures stands { (s : Terms) (past : List Came) (x : Came) → AreLimits s limits.now →
             x.time ≡ time → IsPace s past self.old → IsPace s (x ∷ past) self.new }
         ensures found { (s : Terms) (past : List Came) (x : Came) → AreLimits s limits.now →

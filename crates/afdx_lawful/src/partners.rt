@@ -8,18 +8,18 @@ ghost use Rattle.afdx_lawful.specs.Partners.{may_pair, partner, without_first};
 ghost use Rattle.afdx_lawful.specs.Rings.{all_as, pairs, waiting_as};
 ghost use Rattle.afdx_lawful.specs.Sources.{Came, Source as Terms};
 
-use crate::limits::Limits;
+use crate::limits::SenderLimits;
 use crate::waits::Waits;
 
 /// Whether a frame of this time, in ns, and number may be the copy of one that waits.
-fn may_be(waits: &Waits, limits: &Limits, time: u64, number: u8) -> bool
+fn may_be(waits: &Waits, limits: &SenderLimits, time: u64, number: u8) -> bool
     ensures { result ≡ pairs limits.now time number waits.now }
 {
     waits.number == number && time <= waits.time + limits.hold
 }
 
 /// The place of the oldest frame that waits of which such a frame may be the copy.
-fn place_in(waiting: &[Waits], limits: &Limits, time: u64, number: u8) -> Option<usize>
+fn place_in(waiting: &[Waits], limits: &SenderLimits, time: u64, number: u8) -> Option<usize>
     ensures place { result ≡ position (pairs limits.now time number) waiting.now }
     ensures known { IfSome result (λ k. k < length waiting.now) }
 {
@@ -32,7 +32,7 @@ fn place_in(waiting: &[Waits], limits: &Limits, time: u64, number: u8) -> Option
 /// oldest of which it may be the copy.
 pub(crate) fn take_partner(
     waiting: &mut Vec<Waits>,
-    limits: &Limits,
+    limits: &SenderLimits,
     time: u64,
     number: u8,
 ) -> Option<Waits>

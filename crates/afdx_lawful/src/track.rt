@@ -5,10 +5,10 @@ ghost use Rattle.std.specs.Prelude.{option_to_list};
 ghost use Rattle.afdx_config.specs.Numbers.{next_number as number_behind};
 ghost use Rattle.afdx_lawful.specs.Alone.{number_in, other_number};
 ghost use Rattle.afdx_lawful.specs.Sources.{Came, Source as Terms};
-ghost use Rattle.afdx_lawful.specs.declared.finding.Finding.TheVariants.{Number};
+ghost use Rattle.afdx_lawful.specs.declared.finding.SenderFinding.TheVariants.{Number};
 
 use crate::finding::Flaw;
-use crate::limits::Limits;
+use crate::limits::SenderLimits;
 use crate::pace::Pace;
 
 /// The frames of one side of a source: the number that stands next, if it is known, and the level.
@@ -65,7 +65,13 @@ impl Track {
     }
 
     /// One more frame came at this time, in ns, with this number: what is found of it.
-    pub fn come(&mut self, limits: &Limits, time: u64, flaw: Option<Flaw>, number: u8) -> Alone
+    pub fn come(
+        &mut self,
+        limits: &SenderLimits,
+        time: u64,
+        flaw: Option<Flaw>,
+        number: u8,
+    ) -> Alone
         ensures stands { (s : Terms) (past : List Came) (x : Came) → AreLimits s limits.now →
             x.time ≡ time → number_in x ≡ number → IsTrack s past self.old →
             IsTrack s (x ∷ past) self.new }

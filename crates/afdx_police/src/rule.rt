@@ -103,8 +103,9 @@ impl LinkRule {
         self.policing
     }
 
-    /// The greatest wire size of the link's frames.
-    pub(crate) fn smax(&self) -> u64
+    /// The greatest size of the link's frames on the wire, in bytes: Lmax, and 20 for preamble, start
+    /// delimiter and the gap between frames.
+    pub fn smax(&self) -> u64
         ensures { result ≡ (regulation_of (rule_of self.now)).smax }
     {
         self.lmax + WIRE_EXTRA
@@ -117,8 +118,8 @@ impl LinkRule {
         self.smax() * (LONGEST_GAP_MS / self.bag_ms)
     }
 
-    /// The nanoseconds in which an empty account is filled.
-    pub(crate) fn fill_time(&self) -> u64
+    /// The nanoseconds in which an empty account is filled: BAG and jitter.
+    pub fn fill_time(&self) -> u64
         ensures { let link = regulation_of (rule_of self.now) in result ≡ bag link + jitter link }
     {
         1_000_000 * self.bag_ms + 1000 * self.jitter_us

@@ -17,9 +17,9 @@ const SLOT: u64 = 6_720;
 
 /// A frame of 64 bytes that may wait for ever.
 #[derive(Clone, Copy, Debug, PartialEq, Eq)]
-struct Short;
+struct ShortFrame;
 
-impl HasLength for Short {
+impl HasLength for ShortFrame {
     ghost use Rattle.afdx_port_bench.specs.ShortLaw.{short_facts, short-lawful};
 
     ghost facts = { λ _. short_facts };
@@ -36,7 +36,7 @@ impl HasLength for Short {
 }
 
 /// How many of so many frames left, each put to an idle port and taken.
-fn count_pairs(port: &mut Port<Short>, pairs: u32) -> u32
+fn count_pairs(port: &mut Port<ShortFrame>, pairs: u32) -> u32
     requires { last_time port.old ≡ 0 }
 {
     let mut left = 0_u32;
@@ -45,7 +45,7 @@ fn count_pairs(port: &mut Port<Short>, pairs: u32) -> u32
         if !port.is_quiet(time) {
             return left;
         }
-        let is_put = port.put(time, Priority::High, Short).is_ok();
+        let is_put = port.put(time, Priority::High, ShortFrame).is_ok();
         if is_put && port.take(time + SLOT).is_some() {
             left += 1;
         }
@@ -54,11 +54,11 @@ fn count_pairs(port: &mut Port<Short>, pairs: u32) -> u32
 }
 
 /// How many frames left a port that was filled.
-fn count_filled(port: &mut Port<Short>) -> u32
+fn count_filled(port: &mut Port<ShortFrame>) -> u32
     requires { last_time port.old ≡ 0 }
 {
     for _ in 0..70_000_u32 {
-        if !port.is_quiet(0) || port.put(0, Priority::Low, Short).is_err() {
+        if !port.is_quiet(0) || port.put(0, Priority::Low, ShortFrame).is_err() {
             break;
         }
     }
@@ -80,7 +80,7 @@ fn main(rt: HostRuntime) -> Result<(), AllocError> {
         [_, word, ..] => word.as_str(),
         _ => "",
     };
-    let mut port: Port<Short> = Port::new(rt.alloc(), BYTE_NS, GREATEST_BUFFER)?;
+    let mut port: Port<ShortFrame> = Port::new(rt.alloc(), BYTE_NS, GREATEST_BUFFER)?;
     let left = match word.parse::<u32>() {
         Ok(pairs) => count_pairs(&mut port, pairs.min(10_000_000)),
         Err(_) => count_filled(&mut port),

@@ -29,10 +29,10 @@ use Rattle.afdx_input_sources.specs.Placing.{ArePlaced, OptionsArePlaced, PairIs
 use Rattle.afdx_input_sources.specs.Placing.{place_in, switch_by}
 use Rattle.afdx_input_sources.specs.declared.becoming.RecordingOptions.{RecordingOptions}
 use Rattle.afdx_input_sources.specs.declared.pair_options.PairOptions.{PairOptions}
-use Rattle.afdx_input_sources.specs.declared.places.Entry.{Entry}
+use Rattle.afdx_input_sources.specs.declared.places.TapPort.{TapPort}
 use Rattle.afdx_input_sources.specs.declared.places.Interfaces.{Interfaces}
-use Rattle.afdx_input_sources.specs.declared.places.Place.{Place}
-use Rattle.afdx_input_sources.specs.declared.places.Place.TheVariants as place
+use Rattle.afdx_input_sources.specs.declared.places.TapPoint.{TapPoint}
+use Rattle.afdx_input_sources.specs.declared.places.TapPoint.TheVariants as place
 use Rattle.afdx_input_runs.specs.RecordingRun.{IsEnteredBy}
 use Rattle.afdx_replay.specs.cascading.Sited.{IsAtPlace}
 
@@ -74,7 +74,7 @@ has-port (s ∷ systems) number port e = by (s.id == number) e (λ h. has-port s
 -- ---- where bytes say that a frame came in
 
 -- a system of the switch at a place, of those from a number on
-record IsOwn (at : ℕ) (ss : List NamedRows) (e : Entry) : Type 0 where
+record IsOwn (at : ℕ) (ss : List NamedRows) (e : TapPort) : Type 0 where
   k : ℕ
   s : NamedRows
   here : slice_get ss k ≡ Some s
@@ -85,22 +85,22 @@ record IsOwn (at : ℕ) (ss : List NamedRows) (e : Entry) : Type 0 where
   own : i < s.rows.own
   port : r.port ≡ e.port
 
-own-here : (at : ℕ) (s : NamedRows) (ss : List NamedRows) (port : ℕ) (e : Entry)
+own-here : (at : ℕ) (s : NamedRows) (ss : List NamedRows) (port : ℕ) (e : TapPort)
     → HasPort (own_systems s.rows) port → entry_at at port ≡ e → IsOwn at (s ∷ ss) e
 own-here at s ss port e h is =
     let row = get-taken s.rows.systems s.rows.own h.i h.r h.stands in record {
       k = 0;
       s = s;
       here = refl;
-      switch = sym (ap (λ (e : Entry). e.switch) is) ∙ omega arith;
+      switch = sym (ap (λ (e : TapPort). e.switch) is) ∙ omega arith;
       i = h.i;
       r = h.r;
       stands = row.1;
       own = row.0;
-      port = h.is ∙ ap (λ (e : Entry). e.port) is;
+      port = h.is ∙ ap (λ (e : TapPort). e.port) is;
     }
 
-own-later : (at : ℕ) (s : NamedRows) (ss : List NamedRows) (e : Entry) → IsOwn (at + 1) ss e → IsOwn at (s ∷ ss) e
+own-later : (at : ℕ) (s : NamedRows) (ss : List NamedRows) (e : TapPort) → IsOwn (at + 1) ss e → IsOwn at (s ∷ ss) e
 own-later at s ss e h =
     let place = h.switch in record {
       k = suc h.k;
@@ -114,7 +114,7 @@ own-later at s ss e h =
       port = h.port;
     }
 
-own-of : (at : ℕ) (ss : List NamedRows) (number : ℕ) (e : Entry)
+own-of : (at : ℕ) (ss : List NamedRows) (number : ℕ) (e : TapPort)
     → entry_from at (map (λ s. s.rows) ss) number ≡ Some e → IsOwn at ss e
 unfolding entry_from
 own-of at [] number e h = absurd (cc h)
@@ -128,7 +128,8 @@ own-of at (s ∷ ss) number e h =
     by (Some port) is h later =
         own-here at s ss port e (has-port (own_systems s.rows) number port is) (same_Some (entry_at at port) e h)
 
-only-if-is : (holds : Entry → Bool) (o : Option Entry) (e : Entry) → only_if holds o ≡ Some e → o ≡ Some e
+only-if-is : (holds : TapPort → Bool) (o : Option TapPort) (e : TapPort) → only_if holds o ≡ Some e → o ≡
+    Some e
 only-if-is holds None e h = absurd (cc h)
 only-if-is holds (Some x) e h = by (holds x) h
   where
@@ -138,7 +139,7 @@ only-if-is holds (Some x) e h = by (holds x) h
 
 -- ---- at a switch, where no cable is
 
-record IsAlone (ss : List NamedRows) (e : Entry) : Type 0 where
+record IsAlone (ss : List NamedRows) (e : TapPort) : Type 0 where
   within : e.switch < length ss
   free : far_end ss e.switch e.port ≡ None
 
@@ -164,7 +165,7 @@ module _ (ss : List NamedRows) where
       option_and_then (switches.end_at ss s.name) (neighbour_at_port s.rows port))) at
       ∙ ap (option_and_then (switches.end_at ss s.name)) none
 
-  alone-own : AreSwitches ss → (e : Entry) → IsOwn 0 ss e → IsAlone ss e
+  alone-own : AreSwitches ss → (e : TapPort) → IsOwn 0 ss e → IsAlone ss e
   alone-own are e h =
       let same : e.switch ≡ h.k = (let place = h.switch in omega (arith, place)) in
       let lawful = AllByRecursion-slice_get (λ (s : NamedRows). IsLawfulSwitch s.rows) ss h.k h.s are.each h.here in
@@ -182,13 +183,13 @@ module _ (ss : List NamedRows) where
   no-end (Some f) e = absurd (cc e)
 
   -- a place of the switches: at one of them, and at no cable
-  abbrev IsOneThere : Place → Type 0
+  abbrev IsOneThere : TapPoint → Type 0
   IsOneThere (place.AtPort side port) = ⊥
   IsOneThere (place.Left side port) = ⊥
   IsOneThere (place.AtSwitch side k port) = (k < length ss) × (is_free ss k port ≡ true)
   IsOneThere _ = Unit {0}
 
-  at-one : (side : Side) (port : Option ℕ) (k : ℕ) (q : Place) → k < length ss → at_switch ss side port k ≡ Some q
+  at-one : (side : Side) (port : Option ℕ) (k : ℕ) (q : TapPoint) → k < length ss → at_switch ss side port k ≡ Some q
       → IsOneThere q
   at-one side port k q within h = by (is_free ss k port) refl h
     where
@@ -197,7 +198,7 @@ module _ (ss : List NamedRows) where
       by true is h = subst IsOneThere (same_Some (place.AtSwitch side k port) q h) (within, is)
       by false is h = absurd (cc h)
 
-  known-one : (side : Side) (port : Option ℕ) (k : ℕ) (q : Place) → at_known ss side port k ≡ Some q → IsOneThere q
+  known-one : (side : Side) (port : Option ℕ) (k : ℕ) (q : TapPoint) → at_known ss side port k ≡ Some q → IsOneThere q
   known-one side port k q h = by (nat_lt k (length ss)) refl h
     where
       by : (b : Bool) → nat_lt k (length ss) ≡ b → (if b then at_switch ss side port k else None) ≡ Some q
@@ -210,7 +211,7 @@ module _ (ss : List NamedRows) where
       let name = and-then (switch_named ss) (slice_get names number) k h in place-within ss name.0 k name.2
 
   module _ (names : List (List ℕ)) where
-    one-there : (p q : Place) → place_in (Several ss) names p ≡ Some q → IsOneThere q
+    one-there : (p q : TapPoint) → place_in (Several ss) names p ≡ Some q → IsOneThere q
     one-there place.LeftOut q h = subst IsOneThere (same_Some place.LeftOut q h) tt
     one-there (place.OnSide side) q h = subst IsOneThere (same_Some (place.OnSide side) q h) tt
     one-there (place.AtPort side port) q h = absurd (cc h)
@@ -220,7 +221,7 @@ module _ (ss : List NamedRows) where
         at-one side port found.0 q (named-within names name found.0 found.1) found.2
     one-there (place.AtSwitch side k port) q h = known-one side port k q h
 
-    placed-there : (old : Option Place) (q : Place)
+    placed-there : (old : Option TapPoint) (q : TapPoint)
         → option_map (place_in (Several ss) names) old ≡ option_map Some (Some q) → IsOneThere q
     placed-there None q h = absurd (cc h)
     placed-there (Some p) q h =
@@ -229,19 +230,19 @@ module _ (ss : List NamedRows) where
 -- ---- both
 
 module _ (ss : List NamedRows) (are : AreSwitches ss) where
-  claimed : (q : Option Place) (bytes : List ℕ) (e : Entry)
+  claimed : (q : Option TapPoint) (bytes : List ℕ) (e : TapPort)
       → only_if (allows q) ((ports_of_several ss).entry bytes) ≡ Some e → IsAlone ss e
   claimed q bytes e h =
       let found = and-then (entry_from 0 (map (λ s. s.rows) ss)) (sender_of bytes) e
       (only-if-is (allows q) ((ports_of_several ss).entry bytes) e h) in
       alone-own ss are e (own-of 0 ss found.0 e found.2)
 
-  said : (side : Side) (k port : ℕ) (e : Entry) → IsOneThere ss (place.AtSwitch side k (Some port))
+  said : (side : Side) (k port : ℕ) (e : TapPort) → IsOneThere ss (place.AtSwitch side k (Some port))
       → entry_at k port ≡ e → IsAlone ss e
   said side k port e there is =
       subst (IsAlone ss) is (record { within = there.0; free = no-end ss (far_end ss k port) there.1 })
 
-  of-place : (q : Option Place) → ((p : Place) → q ≡ Some p → IsOneThere ss p) → (bytes : List ℕ) (e : Entry)
+  of-place : (q : Option TapPoint) → ((p : TapPoint) → q ≡ Some p → IsOneThere ss p) → (bytes : List ℕ) (e : TapPort)
       → entry_of q (ports_of_several ss) bytes ≡ Some e → IsAlone ss e
   of-place None there bytes e h = claimed None bytes e h
   of-place (Some place.LeftOut) there bytes e h = claimed (Some place.LeftOut) bytes e h
@@ -255,7 +256,7 @@ module _ (ss : List NamedRows) (are : AreSwitches ss) where
   of-place (Some (place.AtSwitch side k (Some port))) there bytes e h =
       said side k port e (there (place.AtSwitch side k (Some port)) refl) (same_Some (entry_at k port) e h)
 
-  of-interface : (old new : Interfaces) → ArePlaced (Several ss) old new → (i : ℕ) (bytes : List ℕ) (e : Entry)
+  of-interface : (old new : Interfaces) → ArePlaced (Several ss) old new → (i : ℕ) (bytes : List ℕ) (e : TapPort)
       → entry_of (place_of new i) (ports_of_several ss) bytes ≡ Some e → IsAlone ss e
   of-interface old new placed i bytes e h =
       of-place (place_of new i)

@@ -17,7 +17,7 @@ pub use afdx_command_tables::{
 };
 pub use afdx_frame::{BySide, Policing};
 pub use afdx_input_lines::{ListFault, OneOfTwo, Peeked, RecordingFault, RunFault, Watched};
-pub use afdx_input_sources::{Interfaces, PairOptions, Place, Placing, RecordingOptions, Tally};
+pub use afdx_input_sources::{Interfaces, PairOptions, Placing, RecordingOptions, Tally, TapPoint};
 pub use afdx_text::{Output, Sink};
 pub use cascading::admitted::run_cascade;
 pub use cascading::over::SitedInput;

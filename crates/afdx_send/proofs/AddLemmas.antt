@@ -14,11 +14,11 @@ use Rattle.std.proofs.lemmas.Bool.Decides.{nat_tests}
 use Rattle.afdx_config.specs.Rows.{LinkRow}
 use Rattle.afdx_frame.specs.Sealing.{AreBytes}
 use Rattle.afdx_frame.proofs.ListLemmas.{slice_get-push_cases, slice_get-one}
-use Rattle.afdx_send.specs.declared.agenda.Agenda.{Agenda}
+use Rattle.afdx_send.specs.declared.agenda.ReleaseAgenda.{ReleaseAgenda}
 use Rattle.afdx_send.specs.declared.fault.SendFault.{SendFault}
 use Rattle.afdx_send.specs.declared.fault.SendFault.TheVariants.{NotMyLink, NoSuchSub, Empty}
 use Rattle.afdx_send.specs.declared.fault.SendFault.TheVariants.{TooLarge, QueueFull, Memory}
-use Rattle.afdx_send.specs.declared.line.Line.{Line}
+use Rattle.afdx_send.specs.declared.line.SystemLink.{SystemLink}
 use Rattle.afdx_send.specs.declared.regulator.Queued.{Queued}
 use Rattle.afdx_send.specs.declared.regulator.Regulator.{Regulator}
 use Rattle.afdx_send.specs.declared.sender_state.SenderState.{SenderState}
@@ -83,17 +83,17 @@ push_later p new index c m k earliest late come t e =
         ∙ e1 in let g : n ≡ b = cc f in let a : n.time ≡ b.time = ap (λ z. z.time) g in
         old_next p index c t b bs has late (omega arith) over
 
-line_next : (w : SenderState) (place : ℕ) (line : Line) → slice_get w.lines.items place ≡ Some line
+line_next : (w : SenderState) (place : ℕ) (line : SystemLink) → slice_get w.lines.items place ≡ Some line
     → slice_get (nexts_of w) place ≡ Some (next_time_of line.regulator)
 line_next w place line has = slice_get-map (λ l. next_time_of l.regulator) w.lines.items place
     ∙ ap (λ z. option_map (λ l. next_time_of l.regulator) z) has
 
-pub none_after : (w : SenderState) (place index c : ℕ) (line line' : Line) (m : Queued)
+pub none_after : (w : SenderState) (place index c : ℕ) (line line' : SystemLink) (m : Queued)
     → slice_get w.lines.items place ≡ Some line → Takes line line' index m
     → NoneBefore (nexts_of w) c → c ≤ m.time →
     NoneBefore (map (λ l. next_time_of l.regulator) (slice_set w.lines.items place line')) c
 none_after w place index c line line' m has k none come i u e =
-    let f : Line → Option ℕ = λ l. next_time_of l.regulator in
+    let f : SystemLink → Option ℕ = λ l. next_time_of l.regulator in
     let e' = subst (λ (z : List (Option ℕ)). slice_get z i ≡ Some (Some u)) (map-set f w.lines.items place line') e in
     elim (cases_eq i place) [
       | inl s ↦ push_later line.regulator line'.regulator index c m k.pushes k.earliest
@@ -105,7 +105,8 @@ none_after w place index c line line' m has k none come i u e =
     ]
 
 -- a link takes a submission
-pub record Adds (w : SenderState) (place index : ℕ) (line line' : Line) (m : Queued) (ag : Agenda) : Type 0 where
+pub record Adds (w : SenderState) (place index : ℕ) (line line' : SystemLink) (m : Queued) (ag : ReleaseAgenda) : Type
+    0 where
   pub has : slice_get w.lines.items place ≡ Some line
   pub takes : Takes line line' index m
   pub early : m.time ≤ 1000000000000000
@@ -114,12 +115,12 @@ pub record Adds (w : SenderState) (place index : ℕ) (line line' : Line) (m : Q
   pub agenda : nexts ag ≡ slice_set (nexts w.agenda) place (next_time_of line'.regulator)
   pub agenda_count : ag.count ≡ w.agenda.count
 
-pub submission_stands : (w : SenderState) (h : SenderHistory) (place index : ℕ) (line line' : Line)
-    (m : Queued) (ag : Agenda) → StandsFor w h → Adds w place index line line' m ag →
+pub submission_stands : (w : SenderState) (h : SenderHistory) (place index : ℕ) (line line' : SystemLink)
+    (m : Queued) (ag : ReleaseAgenda) → StandsFor w h → Adds w place index line line' m ag →
     StandsFor (record w { lines = with_item w.lines place line'; agenda = ag })
     (with_submission h place (submission_of (index + 1) m))
 submission_stands w h place index line line' m ag st k =
-    let f : Line → Option ℕ = λ l. next_time_of l.regulator in
+    let f : SystemLink → Option ℕ = λ l. next_time_of l.regulator in
     let below' : place < length h.taken =
     (let a = slice_get_within w.lines.items place line k.has in let c = st.count in let l =
     st.lists in omega arith) in
@@ -152,7 +153,7 @@ submission_stands w h place index line line' m ag st k =
                 (λ q d g. (let c = st.come place q d g in omega arith)) in
                 let one : LineStands line1 l1 (own_submissions h.taken place ++ s ∷ [])
                 (own place st.released) = subst
-                (λ (z : Line). LineStands z l1 (own_submissions h.taken place ++ s ∷ [])
+                (λ (z : SystemLink). LineStands z l1 (own_submissions h.taken place ++ s ∷ [])
                 (own place st.released)) (sym same) stands in
                 let two : LineStands line1 l1 (own_submissions h.taken place ++ s ∷ [])
                 (own i st.released) = subst (λ (z : ℕ).
@@ -185,7 +186,7 @@ submission_stands w h place index line line' m ag st k =
       port_clock = (let p = st.port_clock in omega arith);
     }
 
-pub stays_idle : (w : SenderState) (place index : ℕ) (line line' : Line) (m : Queued) (ag : Agenda)
+pub stays_idle : (w : SenderState) (place index : ℕ) (line line' : SystemLink) (m : Queued) (ag : ReleaseAgenda)
     → Adds w place index line line' m ag → IsIdle w
     → IsIdle (record w { lines = with_item w.lines place line'; agenda = ag })
 stays_idle w place index line line' m ag k idle = record {
@@ -195,7 +196,7 @@ stays_idle w place index line line' m ag k idle = record {
 }
 
 -- a refused push leaves the link as it was
-pub record IsSame (line line' : Line) : Type 0 where
+pub record IsSame (line line' : SystemLink) : Type 0 where
   pub waiting : waiting_of line'.regulator ≡ waiting_of line.regulator
   pub bag : line'.regulator.bag ≡ line.regulator.bag
   pub served : line'.regulator.served ≡ line.regulator.served
@@ -205,7 +206,7 @@ pub record IsSame (line line' : Line) : Type 0 where
   pub longest : line'.longest ≡ line.longest
   pub number : line'.number ≡ line.number
 
-line_same : (line line' : Line) (l : LinkRow) (ss : List Submission) (rs : List Release)
+line_same : (line line' : SystemLink) (l : LinkRow) (ss : List Submission) (rs : List Release)
     → IsSame line line' → LineStands line l ss rs → LineStands line' l ss rs
 line_same line line' l ss rs k st =
     let is = st.is_line in
@@ -249,19 +250,19 @@ line_same line line' l ss rs k st =
       number = k.number ∙ st.number;
     }
 
-next_same : (line line' : Line) → IsSame line line' → next_time_of line'.regulator ≡ next_time_of line.regulator
+next_same : (line line' : SystemLink) → IsSame line line' → next_time_of line'.regulator ≡ next_time_of line.regulator
 next_same line line' k =
     ap (λ q. option_map (λ t. max t line'.regulator.earliest) (first_time None q)) k.waiting
     ∙ ap (λ e. option_map (λ t. max t e) (first_time None (waiting_of line.regulator))) k.earliest
 
-nexts_same : (w : SenderState) (place : ℕ) (line line' : Line)
+nexts_same : (w : SenderState) (place : ℕ) (line line' : SystemLink)
     → line ≡ slice_index_or w.lines.items place line → IsSame line line'
     → map (λ l. next_time_of l.regulator) (slice_set w.lines.items place line') ≡ nexts_of w
 nexts_same w place line line' read k =
     map-set_same (λ l. next_time_of l.regulator) w.lines.items place line' line
     (next_same line line' k ∙ ap (λ z. next_time_of z.regulator) read)
 
-pub same_stands : (w : SenderState) (h : SenderHistory) (place : ℕ) (line line' : Line) → StandsFor w h
+pub same_stands : (w : SenderState) (h : SenderHistory) (place : ℕ) (line line' : SystemLink) → StandsFor w h
     → slice_get w.lines.items place ≡ Some line → line ≡ slice_index_or w.lines.items place line
     → IsSame line line' →
     StandsFor (record w { lines = with_item w.lines place line' }) h
@@ -283,7 +284,7 @@ same_stands w h place line line' st has read k = record {
         (subst (λ (z : ℕ). slice_get (slice_set w.lines.items place line') z ≡ Some line1) e a) in
         let before : LineStands line l1 (own_submissions h.taken i) (own i st.released) =
         st.lines i line l1 (subst (λ (z : ℕ). slice_get w.lines.items z ≡ Some line) (sym e) has) b in
-        subst (λ (z : Line). LineStands z l1 (own_submissions h.taken i) (own i st.released))
+        subst (λ (z : SystemLink). LineStands z l1 (own_submissions h.taken i) (own i st.released))
         (sym same) (line_same line line' l1 (own_submissions h.taken i) (own i st.released) k before))
     | inr ne ↦ st.lines i line1 l1 (get_set_other w.lines.items place i line' line1 ne a) b
   ];
@@ -300,7 +301,7 @@ same_stands w h place line line' st has read k = record {
   port_clock = st.port_clock;
 }
 
-pub same_idle : (w : SenderState) (place : ℕ) (line line' : Line)
+pub same_idle : (w : SenderState) (place : ℕ) (line line' : SystemLink)
     → line ≡ slice_index_or w.lines.items place line → IsSame line line' → IsIdle w
     → IsIdle (record w { lines = with_item w.lines place line' })
 same_idle w place line line' read k idle = record {
@@ -397,7 +398,7 @@ count_is ss rs c from (s ∷ rest) ms g h =
             let at : h.0 ≡ from = omega arith in
             let k = rec ms (subst (λ (z : ℕ). IsQueue ss rs c (z + 1) ms) at h.2) in omega arith
 
-pub unreleased : (w : SenderState) (h : SenderHistory) (st : StandsFor w h) (place index : ℕ) (line : Line)
+pub unreleased : (w : SenderState) (h : SenderHistory) (st : StandsFor w h) (place index : ℕ) (line : SystemLink)
     (l : LinkRow) (ms : List Queued) → IsIdle w
     → LineStands line l (own_submissions h.taken place) (own place st.released) →
     HasQueue (waiting_of line.regulator) index ms → AreUnreleased h w.clock place (index + 1) (length ms)
@@ -417,13 +418,13 @@ unreleased w h st place index line l ms idle ls has = (
     plus_zero : (i : ℕ) → i + 0 ≡ i
     plus_zero i = omega arith
 
-pub frames_more : (w : SenderState) (place : ℕ) (line line' : Line) (ag : Agenda)
+pub frames_more : (w : SenderState) (place : ℕ) (line line' : SystemLink) (ag : ReleaseAgenda)
     → slice_get w.lines.items place ≡ Some line → held_by line'.regulator ≡ held_by line.regulator + 1 →
     HoldsMore w (record w { lines = with_item w.lines place line'; agenda = ag })
 frames_more w place line line' ag has one = let m = held_more w place line line' has one in
     record { more = omega (arith, m) }
 
-queue_at : (line : Line) (index : ℕ) → index < sub_count line.regulator → (ms : List Queued)
+queue_at : (line : SystemLink) (index : ℕ) → index < sub_count line.regulator → (ms : List Queued)
     × HasQueue (waiting_of line.regulator) index ms
 queue_at line index lt = (
   slice_index_or (waiting_of line.regulator) index [],
@@ -432,7 +433,7 @@ queue_at line index lt = (
 )
 
 -- why a line refuses a message is why its sender does
-pub refuses : (w : SenderState) (h : SenderHistory) (st : StandsFor w h) (place vl sub n : ℕ) (line : Line)
+pub refuses : (w : SenderState) (h : SenderHistory) (st : StandsFor w h) (place vl sub n : ℕ) (line : SystemLink)
     (fault : SendFault) → IsIdle w → IsPlaceOf h.links vl (Some place)
     → slice_get w.lines.items place ≡ Some line →
     LineRefuses line sub n fault → IsRefused h w.clock vl sub n fault
@@ -472,7 +473,7 @@ refuses w h st place vl sub n line Memory idle p has r = absurd r
 
 -- what a line admits its link admits
 pub admits : (w : SenderState) (h : SenderHistory) (st : StandsFor w h) (place vl sub n : ℕ)
-    (line : Line) → IsIdle w → IsPlaceOf h.links vl (Some place) → slice_get w.lines.items place
+    (line : SystemLink) → IsIdle w → IsPlaceOf h.links vl (Some place) → slice_get w.lines.items place
     ≡ Some line → LineAdmits line sub n → LinkTakes h w.clock place vl sub n
 admits w h st place vl zero n line idle p has a = absurd (let b = a.is_sub.0 in omega arith)
 admits w h st place vl (suc index) n line idle p has a =
@@ -505,7 +506,7 @@ submission_is m index sub time udp payload a b c d =
     ∙ ap (λ z. submission z sub m.udp m.payload.items) b
     ∙ ap (λ z. submission time sub z m.payload.items) c ∙ ap (λ z. submission time sub udp z) d
 
-pub can_take : (line : Line) (index sub : ℕ) (m : Queued) (n : ℕ) → LineAdmits line sub n
+pub can_take : (line : SystemLink) (index sub : ℕ) (m : Queued) (n : ℕ) → LineAdmits line sub n
     → index + 1 ≡ sub → length m.payload.items ≡ n → m.udp < 2 ^ 16 → AreBytes m.payload.items
     → CanTake line index m
 can_take line index sub m n a e k udp bytes = record {
@@ -515,10 +516,10 @@ can_take line index sub m n a e k udp bytes = record {
   room = λ ms h. a.room index ms e h;
 }
 
-pub frames_same : (w : SenderState) (place : ℕ) (line line' : Line) → slice_get w.lines.items place
+pub frames_same : (w : SenderState) (place : ℕ) (line line' : SystemLink) → slice_get w.lines.items place
     ≡ Some line → IsSame line line' → HoldsSame w (record w { lines = with_item w.lines place line' })
 frames_same w place line line' has k =
-    let f : Line → ℕ = λ l. held_by l.regulator in
+    let f : SystemLink → ℕ = λ l. held_by l.regulator in
     let s = sum_by-set f w.lines.items place line' line (slice_get_within w.lines.items place line has) in
     let e = get_or_from_slice_get w.lines.items place line line has in
     let s' = rw e at s in

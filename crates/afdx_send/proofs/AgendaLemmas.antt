@@ -7,16 +7,16 @@ use Rattle.std.specs.List.{slice_get}
 use Rattle.std.proofs.lemmas.List.{map-set, length-replicate}
 use Rattle.std.proofs.lemmas.Option.{slice_get-map, slice_get-get_or, slice_get_within}
 use Rattle.std.proofs.lemmas.Bool.{cases_lt, cases_eq}
-use Rattle.afdx_send.specs.declared.agenda.Next.{Next}
+use Rattle.afdx_send.specs.declared.agenda.NextRelease.{NextRelease}
 use Rattle.afdx_send.specs.Agenda.{IsAhead, IsSooner, IsWinner, IsTournament, times_of, NoneBefore}
 use Rattle.afdx_send.specs.Agenda.{IsSoonest, next_with}
 use Rattle.afdx_send.proofs.ReleaseLemmas.{get_set_same, get_set_other, length_set}
 
-ahead_same : (a : Option Next) → IsAhead a a
+ahead_same : (a : Option NextRelease) → IsAhead a a
 ahead_same None = tt
 ahead_same (Some x) = (omega arith, λ e. omega arith)
 
-ahead_trans : (a b c : Option Next) → IsAhead a b → IsAhead b c → IsAhead a c
+ahead_trans : (a b c : Option NextRelease) → IsAhead a b → IsAhead b c → IsAhead a c
 ahead_trans a b None h k = tt
 ahead_trans a None (Some z) h k = absurd k
 ahead_trans None (Some y) (Some z) h k = absurd h
@@ -68,20 +68,20 @@ map_replicate f zero y = refl
 map_replicate f (suc n) y = ap (λ z. f y ∷ z) (map_replicate f n y)
 
 -- no link has a release
-pub new_tournament : (count : ℕ) (nodes : List (Option Next)) → count ≤ 4096
+pub new_tournament : (count : ℕ) (nodes : List (Option NextRelease)) → count ≤ 4096
     → nodes ≡ replicate (2 * count) None → IsTournament count nodes
-new_tournament count nodes small e = subst (λ (z : List (Option Next)). IsTournament count z) (sym e) (record {
+new_tournament count nodes small e = subst (λ (z : List (Option NextRelease)). IsTournament count z) (sym e) (record {
   size = length-replicate (2 * count) None;
   small = small;
   leaves = λ k x h. absurd (let f : Some x ≡ None = get_replicate (2 * count) (count + k) None (Some x) h in cc f);
   winners = λ i le lt a b c ha hb hc. record {
     picks = inl (get_replicate (2 * count) i None a ha ∙ sym (get_replicate (2 * count) (2 * i) None b hb));
-    left = subst (λ (z : Option Next). IsAhead a z) (sym (get_replicate (2 * count) (2 * i) None b hb)) tt;
-    right = subst (λ (z : Option Next). IsAhead a z) (sym (get_replicate (2 * count) (2 * i + 1) None c hc)) tt;
+    left = subst (λ (z : Option NextRelease). IsAhead a z) (sym (get_replicate (2 * count) (2 * i) None b hb)) tt;
+    right = subst (λ (z : Option NextRelease). IsAhead a z) (sym (get_replicate (2 * count) (2 * i + 1) None c hc)) tt;
   };
 })
 
-pub new_times : (count : ℕ) (nodes : List (Option Next)) → nodes ≡ replicate (2 * count) None
+pub new_times : (count : ℕ) (nodes : List (Option NextRelease)) → nodes ≡ replicate (2 * count) None
     → times_of count nodes ≡ replicate count None
 new_times count nodes e =
     let two : 2 * count ≡ count + count = omega arith in
@@ -89,18 +89,19 @@ new_times count nodes e =
     ap (λ z. map (λ x. option_map (λ next. next.time) x) z) (drop_replicate count count None) ∙
     map_replicate (λ x. option_map (λ next. next.time) x) count None
 
-read : (nodes : List (Option Next)) (i : ℕ) → i < length nodes → (a : Option Next) × (slice_get nodes i ≡ Some a)
+read : (nodes : List (Option NextRelease)) (i : ℕ) → i < length nodes → (a : Option NextRelease) ×
+    (slice_get nodes i ≡ Some a)
 read nodes i lt = (slice_index_or nodes i None, slice_get-get_or nodes i None lt)
 
 -- the root goes before each node
-root_first : (count : ℕ) (nodes : List (Option Next)) → IsTournament count nodes → (r : Option Next)
+root_first : (count : ℕ) (nodes : List (Option NextRelease)) → IsTournament count nodes → (r : Option NextRelease)
     → slice_get nodes 1 ≡ Some r →
-    (n i : ℕ) (a : Option Next) → i ≤ n → 1 ≤ i → slice_get nodes i ≡ Some a → IsAhead r a
+    (n i : ℕ) (a : Option NextRelease) → i ≤ n → 1 ≤ i → slice_get nodes i ≡ Some a → IsAhead r a
 root_first count nodes t r root zero i a le one h = absurd (omega arith)
 root_first count nodes t r root (suc n) i a le one h = elim (cases_eq i 1) [
   | inl e ↦ (let h' = subst (λ (z : ℕ). slice_get nodes z ≡ Some a) e h in let both : Some r
       ≡ Some a = sym root ∙ h' in let same : r ≡ a = cc both in
-      subst (λ (z : Option Next). IsAhead r z) same (ahead_same r))
+      subst (λ (z : Option NextRelease). IsAhead r z) same (ahead_same r))
   | inr ne ↦ (let size = t.size in
       let within : i < length nodes = slice_get_within nodes i a h in
       let p : ℕ = i / 2 in
@@ -114,17 +115,17 @@ root_first count nodes t r root (suc n) i a le one h = elim (cases_eq i 1) [
       elim (cases_eq i (2 * p)) [
         | inl e ↦ (let h' = subst (λ (z : ℕ). slice_get nodes z ≡ Some a) e h in
             let both : Some left.0 ≡ Some a = sym left.1 ∙ h' in let same : left.0 ≡ a = cc both in
-            subst (λ (z : Option Next). IsAhead r z) same (ahead_trans r parent.0 left.0 up w.left))
+            subst (λ (z : Option NextRelease). IsAhead r z) same (ahead_trans r parent.0 left.0 up w.left))
         | inr ne' ↦ (let e : i ≡ 2 * p + 1 = omega arith in let h' =
             subst (λ (z : ℕ). slice_get nodes z ≡ Some a) e h in let both : Some right.0 ≡ Some a =
             sym right.1 ∙ h' in let same : right.0 ≡ a = cc both in
-            subst (λ (z : Option Next). IsAhead r z) same (ahead_trans r parent.0 right.0 up w.right))
+            subst (λ (z : Option NextRelease). IsAhead r z) same (ahead_trans r parent.0 right.0 up w.right))
       ])
 ]
 
 -- each node is that of a leaf
-from_leaf : (count : ℕ) (nodes : List (Option Next)) → IsTournament count nodes →
-    (n i : ℕ) (a : Option Next) → 2 * count ≤ i + n → 1 ≤ i → slice_get nodes i ≡ Some a
+from_leaf : (count : ℕ) (nodes : List (Option NextRelease)) → IsTournament count nodes →
+    (n i : ℕ) (a : Option NextRelease) → 2 * count ≤ i + n → 1 ≤ i → slice_get nodes i ≡ Some a
     → (k : ℕ) × (slice_get nodes (count + k) ≡ Some a)
 from_leaf count nodes t zero i a le one h =
     absurd (let size = t.size in let within = slice_get_within nodes i a h in omega arith)
@@ -145,19 +146,19 @@ from_leaf count nodes t (suc n) i a le one h = elim (cases_lt i count) [
   )
 ]
 
-time_at : (count : ℕ) (nodes : List (Option Next)) (k : ℕ) (a : Option Next)
+time_at : (count : ℕ) (nodes : List (Option NextRelease)) (k : ℕ) (a : Option NextRelease)
     → slice_get nodes (count + k) ≡ Some a → slice_get (times_of count nodes) k
     ≡ Some (option_map (λ next. next.time) a)
 time_at count nodes k a h = slice_get-map (λ x. option_map (λ next. next.time) x) (drop count nodes)
     k ∙ ap (λ z. option_map (λ x. option_map (λ next. next.time) x) z) (get_drop count k nodes ∙ h)
 
 -- a time is that of a leaf
-leaf_at : (count : ℕ) (nodes : List (Option Next)) → IsTournament count nodes → (k u : ℕ)
+leaf_at : (count : ℕ) (nodes : List (Option NextRelease)) → IsTournament count nodes → (k u : ℕ)
     → slice_get (times_of count nodes) k ≡ Some (Some u) →
-    (y : Next) × (slice_get nodes (count + k) ≡ Some (Some y)) × (y.time ≡ u)
+    (y : NextRelease) × (slice_get nodes (count + k) ≡ Some (Some y)) × (y.time ≡ u)
 leaf_at count nodes t k u h = by_node (slice_get nodes (count + k)) refl
   where
-    by_node : (o : Option (Option Next)) → slice_get nodes (count + k) ≡ o → (y : Next)
+    by_node : (o : Option (Option NextRelease)) → slice_get nodes (count + k) ≡ o → (y : NextRelease)
         × (slice_get nodes (count + k) ≡ Some (Some y)) × (y.time ≡ u)
     by_node None e = absurd (let f : slice_get (times_of count nodes) k ≡ None =
         slice_get-map (λ x. option_map (λ next. next.time) x) (drop count nodes) k
@@ -172,8 +173,8 @@ leaf_at count nodes t k u h = by_node (slice_get nodes (count + k)) refl
           ≡ Some (Some y.time) = sym h ∙ f in cc g),
     )
 
-pub root_is : (count : ℕ) (nodes : List (Option Next)) → IsTournament count nodes
-    → (r : Option Next) → slice_get nodes 1 ≡ Some r →
+pub root_is : (count : ℕ) (nodes : List (Option NextRelease)) → IsTournament count nodes
+    → (r : Option NextRelease) → slice_get nodes 1 ≡ Some r →
     MatchOption r ((t : ℕ) → NoneBefore (times_of count nodes) t)
     (λ next. IsSoonest (times_of count nodes) next.time next.place)
 root_is count nodes t None root = λ u i v h. absurd (let y = leaf_at count nodes t i v h in
@@ -198,7 +199,8 @@ root_is count nodes t (Some x) root =
     }
 
 -- while a leaf's way to the root is played again: each node is a winner but the one at `node`
-pub record IsPlayedTo (count : ℕ) (leaves : List (Option Next)) (nodes : List (Option Next)) (node : ℕ) : Type 0 where
+pub record IsPlayedTo (count : ℕ) (leaves : List (Option NextRelease)) (nodes : List (Option NextRelease)) (node : ℕ)
+    : Type 0 where
   pub size : length nodes ≡ 2 * count
   pub below : node < count
   pub rest : drop count nodes ≡ leaves
@@ -207,7 +209,7 @@ pub record IsPlayedTo (count : ℕ) (leaves : List (Option Next)) (nodes : List 
 half_below : (count place : ℕ) → place < count → (count + place) / 2 < count
 half_below count place lt = omega arith
 
-pub set_leaf : (count place : ℕ) (nodes : List (Option Next)) (leaf : Option Next)
+pub set_leaf : (count place : ℕ) (nodes : List (Option NextRelease)) (leaf : Option NextRelease)
     → IsTournament count nodes → place < count →
     IsPlayedTo count (drop count (slice_set nodes (count + place) leaf))
     (slice_set nodes (count + place) leaf) ((count + place) / 2)
@@ -224,7 +226,7 @@ set_leaf count place nodes leaf t lt = record {
       (get_set_other nodes (count + place) (2 * i + 1) leaf c nc hc);
 }
 
-pub play : (count node : ℕ) (leaves nodes : List (Option Next)) (a b c : Option Next)
+pub play : (count node : ℕ) (leaves nodes : List (Option NextRelease)) (a b c : Option NextRelease)
     → IsPlayedTo count leaves nodes node → 1 ≤ node →
     slice_get nodes (2 * node) ≡ Some b → slice_get nodes (2 * node + 1) ≡ Some c → IsSooner a b c
     → IsPlayedTo count leaves (slice_set nodes node a) (node / 2)
@@ -244,18 +246,18 @@ play count node leaves nodes a b c p one hb hc w = record {
             let eb : Some b ≡ Some b' = sym hb ∙ subst (λ (z : ℕ). slice_get nodes (2 * z) ≡ Some b') e gb in
             let ec : Some c ≡ Some c' = sym hc ∙ subst (λ (z : ℕ). slice_get nodes (2 * z + 1) ≡ Some c') e gc in
             let fb : b ≡ b' = cc eb in let fc : c ≡ c' = cc ec in
-            subst (λ (z : Option Next). IsSooner z b' c') (sym same)
-            (subst (λ (z : Option Next). IsSooner a z c') fb
-            (subst (λ (z : Option Next). IsSooner a b z) fc w)))
+            subst (λ (z : Option NextRelease). IsSooner z b' c') (sym same)
+            (subst (λ (z : Option NextRelease). IsSooner a z c') fb
+            (subst (λ (z : Option NextRelease). IsSooner a b z) fc w)))
         | inr other ↦ p.winners i le lt other a' b' c' (get_set_other nodes node i a a' other ha') gb gc
       ];
 }
 
-pub read_at : (nodes : List (Option Next)) (i : ℕ) (a : Option Next) → i < length nodes
+pub read_at : (nodes : List (Option NextRelease)) (i : ℕ) (a : Option NextRelease) → i < length nodes
     → a ≡ slice_index_or nodes i a → slice_get nodes i ≡ Some a
 read_at nodes i a lt e = slice_get-get_or nodes i a lt ∙ ap (λ z. Some z) (sym e)
 
-pub played_on : (count node : ℕ) (leaves nodes : List (Option Next)) (a b c : Option Next)
+pub played_on : (count node : ℕ) (leaves nodes : List (Option NextRelease)) (a b c : Option NextRelease)
     → IsPlayedTo count leaves nodes node → 1 ≤ node →
     b ≡ slice_index_or nodes (2 * node) b → c ≡ slice_index_or nodes (2 * node + 1) c
     → IsSooner a b c → IsPlayedTo count leaves (slice_set nodes node a) (node / 2)
@@ -265,7 +267,7 @@ played_on count node leaves nodes a b c p one eb ec w =
     (read_at nodes (2 * node + 1) c (omega arith) ec) w
 
 -- the node that is to be played is the winner already
-pub played_already : (count node : ℕ) (leaves nodes : List (Option Next)) (a b c : Option Next)
+pub played_already : (count node : ℕ) (leaves nodes : List (Option NextRelease)) (a b c : Option NextRelease)
     → IsPlayedTo count leaves nodes node → 1 ≤ node →
     a ≡ slice_index_or nodes node a → b ≡ slice_index_or nodes (2 * node) b
     → c ≡ slice_index_or nodes (2 * node + 1) c → IsSooner a b c → IsPlayedTo count leaves nodes 0
@@ -283,20 +285,20 @@ played_already count node leaves nodes a b c p one ea eb ec w = record {
         let fc : Some c ≡ Some c' = sym (read_at nodes (2 * node + 1) c (omega arith) ec)
         ∙ subst (λ (z : ℕ). slice_get nodes (2 * z + 1) ≡ Some c') e hc in
         let ga : a ≡ a' = cc fa in let gb : b ≡ b' = cc fb in let gc : c ≡ c' = cc fc in
-        subst (λ (z : Option Next). IsSooner z b' c') ga
-        (subst (λ (z : Option Next). IsSooner a z c') gb
-        (subst (λ (z : Option Next). IsSooner a b z) gc w)))
+        subst (λ (z : Option NextRelease). IsSooner z b' c') ga
+        (subst (λ (z : Option NextRelease). IsSooner a z c') gb
+        (subst (λ (z : Option NextRelease). IsSooner a b z) gc w)))
     | inr other ↦ p.winners i le lt other a' b' c' ha hb hc
   ];
 }
 
-rest_is : (count place : ℕ) (old nodes : List (Option Next)) (leaf : Option Next) (node : ℕ)
+rest_is : (count place : ℕ) (old nodes : List (Option NextRelease)) (leaf : Option NextRelease) (node : ℕ)
     → IsPlayedTo count (drop count (slice_set old (count + place) leaf)) nodes node →
     drop count nodes ≡ slice_set (drop count old) place leaf
 rest_is count place old nodes leaf node p = p.rest ∙ drop_set_after count place leaf old
 
-pub played : (count place : ℕ) (old nodes : List (Option Next)) (time : Option ℕ)
-    (leaf : Option Next) (node : ℕ) → IsTournament count old → leaf ≡ option_map (next_with place) time →
+pub played : (count place : ℕ) (old nodes : List (Option NextRelease)) (time : Option ℕ)
+    (leaf : Option NextRelease) (node : ℕ) → IsTournament count old → leaf ≡ option_map (next_with place) time →
     IsPlayedTo count (drop count (slice_set old (count + place) leaf)) nodes node → node < 1 → IsTournament count nodes
 played count place old nodes time leaf node t is p end = record {
   size = p.size;
@@ -314,20 +316,20 @@ played count place old nodes time leaf node t is p end = record {
   winners = λ i le lt'. p.winners i le lt' (λ e. omega arith);
 }
   where
-    by_time : (o : Option ℕ) (x : Next) → Some x ≡ option_map (next_with place) o → x.place ≡ place
+    by_time : (o : Option ℕ) (x : NextRelease) → Some x ≡ option_map (next_with place) o → x.place ≡ place
     by_time None x e = absurd (cc e)
     by_time (Some u) x e = let f : x ≡ next_with place u = cc e in ap (λ z. z.place) f
 
-pub played_times : (count place : ℕ) (old nodes : List (Option Next)) (time : Option ℕ)
-    (leaf : Option Next) (node : ℕ) → leaf ≡ option_map (next_with place) time →
+pub played_times : (count place : ℕ) (old nodes : List (Option NextRelease)) (time : Option ℕ)
+    (leaf : Option NextRelease) (node : ℕ) → leaf ≡ option_map (next_with place) time →
     IsPlayedTo count (drop count (slice_set old (count + place) leaf)) nodes node
     → times_of count nodes ≡ slice_set (times_of count old) place time
 played_times count place old nodes time leaf node is p =
-    let f : Option Next → Option ℕ = λ x. option_map (λ next. next.time) x in
+    let f : Option NextRelease → Option ℕ = λ x. option_map (λ next. next.time) x in
     ap (λ z. map f z) (rest_is count place old nodes leaf node p) ∙
     map-set f (drop count old) place leaf ∙
     ap (λ z. slice_set (times_of count old) place z) (ap f is ∙ back time)
   where
-    back : (o : Option ℕ) → option_map {T = Next} (λ next. next.time) (option_map (next_with place) o) ≡ o
+    back : (o : Option ℕ) → option_map {T = NextRelease} (λ next. next.time) (option_map (next_with place) o) ≡ o
     back None = refl
     back (Some u) = refl

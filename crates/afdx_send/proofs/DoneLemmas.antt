@@ -8,7 +8,7 @@ use Rattle.afdx_config.specs.Admission.{byte_ns}
 use Rattle.afdx_config.specs.Rows.{LinkRow}
 use Rattle.afdx_port.specs.Schedule.{Turn, IsSchedule}
 use Rattle.afdx_port.specs.declared.left.Left.{Left}
-use Rattle.afdx_send.specs.declared.line.Line.{Line}
+use Rattle.afdx_send.specs.declared.line.SystemLink.{SystemLink}
 use Rattle.afdx_send.specs.declared.regulator.Queued.{Queued}
 use Rattle.afdx_send.specs.declared.sender_state.SenderState.{SenderState}
 use Rattle.afdx_send.specs.Agenda.{NoneBefore}
@@ -30,7 +30,7 @@ all_released w h st t none late i place l row lt =
     let d = slice_get-within (own_submissions h.taken i) place lt in
     by r.0 r.1 d.0 d.1 (has_release (own i st.released) place) refl
   where
-    never : (line : Line) → slice_get w.lines.items i ≡ Some line
+    never : (line : SystemLink) → slice_get w.lines.items i ≡ Some line
         → (index : ℕ) (m : Queued) (ms : List Queued)
         → HasQueue (waiting_of line.regulator) index (m ∷ ms) → (o : Option ℕ)
         → next_time_of line.regulator ≡ o → ⊥
@@ -44,7 +44,7 @@ all_released w h st t none late i place l row lt =
         (record { below = slice_get_within w.lines.items i line has; has = has; due = e }) in
         let m = k.limit in omega arith
 
-    by : (line : Line) → slice_get w.lines.items i ≡ Some line → (d : Submission)
+    by : (line : SystemLink) → slice_get w.lines.items i ≡ Some line → (d : Submission)
         → slice_get (own_submissions h.taken i) place ≡ Some d → (b : Bool)
         → has_release (own i st.released) place ≡ b → has_release (own i st.released) place ≡ true
     by line has d g true e = e

@@ -20,7 +20,7 @@ use Rattle.afdx_port.specs.Schedule.{Entry, Turn, IsNext, AreTurns, is_past, las
 use Rattle.afdx_port.specs.ScheduleOf.{AreInOrder}
 use Rattle.afdx_port.specs.declared.left.Left.{Left}
 use Rattle.afdx_port.specs.declared.port_state.PortState.{PortState}
-use Rattle.afdx_send.specs.declared.line.Line.{Line}
+use Rattle.afdx_send.specs.declared.line.SystemLink.{SystemLink}
 use Rattle.afdx_send.specs.declared.sender.Emission.{Emission}
 use Rattle.afdx_send.specs.declared.sender_state.SenderState.{SenderState}
 use Rattle.afdx_send.specs.Emissions.{LinkRelease, own, AreAllReleases, IsNextOf, entry_for, entries_of, IsSending}
@@ -180,12 +180,12 @@ QuietIsNext = (p : PortState Frame) (h : port.PortHistory Frame) (t : ℕ) → p
 pub all_subs : (w : SenderState) (h : SenderHistory) → StandsFor w h → AllSubs h.links h.taken
 all_subs w h st i l g j s k = by_line (slice_get w.lines.items i) refl
   where
-    none : (xs : List Line) (m : ℕ) → m < length xs → slice_get xs m ≡ None → ⊥
+    none : (xs : List SystemLink) (m : ℕ) → m < length xs → slice_get xs m ≡ None → ⊥
     none [] m lt e = omega arith
     none (x ∷ xs) zero lt e = cc e
     none (x ∷ xs) (suc m) lt e = none xs m (omega arith) e
 
-    by_line : (o : Option Line) → slice_get w.lines.items i ≡ o → (1 ≤ s.sub) × (s.sub ≤ l.subs)
+    by_line : (o : Option SystemLink) → slice_get w.lines.items i ≡ o → (1 ≤ s.sub) × (s.sub ≤ l.subs)
     by_line None e = absurd (none w.lines.items i
         (let m = slice_get_within h.links i l g in let c = st.count in omega arith) e)
     by_line (Some line) e = let ls = st.lines i line l e g in let r = ls.regulates.subs j s k in

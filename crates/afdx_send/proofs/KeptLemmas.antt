@@ -9,7 +9,7 @@ use Rattle.afdx_config.specs.Rows.{LinkRow}
 use Rattle.afdx_law_bounds.specs.Sender.{SenderIsNeverFull}
 use Rattle.afdx_port.specs.Schedule.{Entry, IsSchedule, IsLost}
 use Rattle.afdx_port.specs.ScheduleOf.{AreInOrder, schedule_of}
-use Rattle.afdx_send.specs.declared.line.Line.{Line}
+use Rattle.afdx_send.specs.declared.line.SystemLink.{SystemLink}
 use Rattle.afdx_send.specs.declared.sender_state.SenderState.{SenderState}
 use Rattle.afdx_send.specs.Agenda.{IsSoonest}
 use Rattle.afdx_send.specs.Emissions.{LinkRelease, own, own_submissions, entry_for, entries_of}
@@ -38,17 +38,17 @@ order_push es e t order come late i j c d le h k = elim (slice_get-push_cases es
 pub all_fit : (w : SenderState) (h : SenderHistory) → StandsFor w h → AllFit h.links h.taken
 all_fit w h st i j l s g k = by_line (slice_get w.lines.items i) refl
   where
-    none : (xs : List Line) (m : ℕ) → m < length xs → slice_get xs m ≡ None → ⊥
+    none : (xs : List SystemLink) (m : ℕ) → m < length xs → slice_get xs m ≡ None → ⊥
     none [] m lt e = omega arith
     none (x ∷ xs) zero lt e = cc e
     none (x ∷ xs) (suc m) lt e = none xs m (omega arith) e
 
-    by_line : (o : Option Line) → slice_get w.lines.items i ≡ o → length s.message.payload + 47 ≤ l.lmax
+    by_line : (o : Option SystemLink) → slice_get w.lines.items i ≡ o → length s.message.payload + 47 ≤ l.lmax
     by_line None e = absurd (none w.lines.items i
         (let m = slice_get_within h.links i l g in let c = st.count in omega arith) e)
     by_line (Some line) e = (st.lines i line l e g).fits j s k
 
-pub kept : (w : SenderState) (h : SenderHistory) (st : StandsFor w h) (time place : ℕ) (line line' : Line)
+pub kept : (w : SenderState) (h : SenderHistory) (st : StandsFor w h) (time place : ℕ) (line line' : SystemLink)
     (f : Frame) → SenderIsNeverFull Frame →
     ((b : ℕ) (es : List (Entry Frame)) → AreInOrder es → IsSchedule b es (schedule_of b es))
     → IsSoonest (nexts_of w) time place → IsDueLine w time place line →

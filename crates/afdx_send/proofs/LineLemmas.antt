@@ -9,7 +9,7 @@ use Rattle.std.proofs.lemmas.Bool.{cases_lt, cases_eq}
 use Rattle.afdx_frame.proofs.ListLemmas.{slice_get-push_cases}
 use Rattle.afdx_config.specs.Numbers.{after_steps, next_number}
 use Rattle.afdx_config.specs.Rows.{LinkRow}
-use Rattle.afdx_send.specs.declared.line.Line.{Line}
+use Rattle.afdx_send.specs.declared.line.SystemLink.{SystemLink}
 use Rattle.afdx_send.specs.declared.regulator.Queued.{Queued}
 use Rattle.afdx_send.specs.declared.regulator.Regulator.{Regulator}
 use Rattle.afdx_send.specs.Frames.{Frame}
@@ -111,7 +111,7 @@ timely_release p new ss rs time sub m g timely next s =
     ]
 
 -- what a line releases is what its regulator does
-pub line_releases : (old new : Line) (f : Frame) (time sub : ℕ) (m : Queued)
+pub line_releases : (old new : SystemLink) (f : Frame) (time sub : ℕ) (m : Queued)
     → next_time_of old.regulator ≡ Some time → Serves old.regulator time sub m new.regulator →
     ((ss : List Submission) (rs : List Release) → Regulates old.regulator ss rs
     → Releases old.regulator ss rs time sub m new.regulator) →
@@ -152,7 +152,7 @@ recent b t [] all = omega arith
 recent b t (r ∷ rs) all = let lt : r.time < t = all.0 in omega arith
 
 -- a link takes a submission
-pub record Takes (line line' : Line) (index : ℕ) (m : Queued) : Type 0 where
+pub record Takes (line line' : SystemLink) (index : ℕ) (m : Queued) : Type 0 where
   pub can : CanTake line index m
   pub pushes : Pushes (waiting_of line.regulator) index m (waiting_of line'.regulator)
   pub bag : line'.regulator.bag ≡ line.regulator.bag
@@ -163,7 +163,7 @@ pub record Takes (line line' : Line) (index : ℕ) (m : Queued) : Type 0 where
   pub longest : line'.longest ≡ line.longest
   pub number : line'.number ≡ line.number
 
-pub line_takes : (line line' : Line) (index : ℕ) (m : Queued) (l : LinkRow) (ss : List Submission)
+pub line_takes : (line line' : SystemLink) (index : ℕ) (m : Queued) (l : LinkRow) (ss : List Submission)
     (rs : List Release) → Takes line line' index m → LineStands line l ss rs → m.time ≤ 1000000000000000 →
     AllByRecursion (λ r. r.time < m.time) rs
     → ((i : ℕ) (e : Submission) → slice_get ss i ≡ Some e → e.time ≤ m.time)

@@ -27,7 +27,7 @@ use Rattle.afdx_frame.proofs.ListLemmas.{slice_get-within}
 use Rattle.std.proofs.lemmas.Bool.{eqb-true}
 use Rattle.afdx_port.specs.Held as held
 use Rattle.afdx_port.specs.History as port
-use Rattle.afdx_send.specs.declared.line.Line.{Line}
+use Rattle.afdx_send.specs.declared.line.SystemLink.{SystemLink}
 use Rattle.afdx_send.specs.declared.regulator.Queued.{Queued}
 use Rattle.afdx_send.specs.declared.sender_state.SenderState.{SenderState}
 use Rattle.afdx_send.specs.Agenda.{IsPlayed, nexts}
@@ -43,14 +43,14 @@ use Rattle.afdx_send.specs.Sender.{port_history}
 use Rattle.afdx_send.proofs.ReleaseLemmas.{get_set_same, get_set_other, length_set}
 
 -- the queues of a new regulator are empty
-none_waits : (line : Line) → Regulates line.regulator [] [] → (i : ℕ) (ms : List Queued)
+none_waits : (line : SystemLink) → Regulates line.regulator [] [] → (i : ℕ) (ms : List Queued)
     → HasQueue (waiting_of line.regulator) i ms → length ms ≡ 0
 none_waits line g i [] h = refl
 none_waits line g i (m ∷ ms) h =
     absurd (let q : IsQueue [] [] (i + 1) 0 (m ∷ ms) = g.queues i (m ∷ ms) h in let e =
     q.1.own.stands in cc e)
 
-pub new_line : (l : LinkRow) (line : Line) (n : ℕ) → IsLineOf l line
+pub new_line : (l : LinkRow) (line : SystemLink) (n : ℕ) → IsLineOf l line
     → IsLinkUpTo jitter_from_any n l
     → Regulates line.regulator [] [] → held_by line.regulator ≡ 0 → line.number ≡ 0
     → LineStands line l [] []
@@ -75,7 +75,7 @@ new_line l line n is lawful g none number = record {
     zero_times : (b : ℕ) → 0 * b ≡ 0
     zero_times b = omega arith
 
-pub lines_push : (links : List LinkRow) (lines : List Line) (l : LinkRow) (line : Line)
+pub lines_push : (links : List LinkRow) (lines : List SystemLink) (l : LinkRow) (line : SystemLink)
     → AreNewLines links lines → IsNewLine l line → AreNewLines (links ++ l ∷ []) (lines ++ line ∷ [])
 lines_push links lines l line a new = record {
   count = length_push lines line ∙ ap (λ z. z + 1) a.count ∙ sym (length_push links l);
@@ -88,7 +88,7 @@ lines_push links lines l line a new = record {
       | inl old' ↦ absurd (let w = slice_get_within lines i line1 old' in let e = last.0 in let c =
           a.count in omega arith)
       | inr last' ↦ subst (λ (z : LinkRow). IsNewLine z line1) (sym last.1)
-          (subst (λ (z : Line). IsNewLine l z) (sym last'.1) new)
+          (subst (λ (z : SystemLink). IsNewLine l z) (sym last'.1) new)
     ]
   ];
 }
@@ -107,15 +107,15 @@ filter_short p (x ∷ xs) = by (p x) (filter_short p xs)
     by false h = omega arith
 
 -- the places of the first n lines
-abbrev pub IsPlaceTo : ℕ → List Line → ℕ → Option ℕ → Type 0
-IsPlaceTo n lines vl None = (i : ℕ) (line : Line) → i < n → slice_get lines i ≡ Some line → line.vl.0 ≡ vl → ⊥
-IsPlaceTo n lines vl (Some place) = (line : Line) × (slice_get lines place ≡ Some line) × (line.vl.0 ≡ vl)
+abbrev pub IsPlaceTo : ℕ → List SystemLink → ℕ → Option ℕ → Type 0
+IsPlaceTo n lines vl None = (i : ℕ) (line : SystemLink) → i < n → slice_get lines i ≡ Some line → line.vl.0 ≡ vl → ⊥
+IsPlaceTo n lines vl (Some place) = (line : SystemLink) × (slice_get lines place ≡ Some line) × (line.vl.0 ≡ vl)
 
-pub record ArePlaces (n : ℕ) (lines : List Line) (places : List (Option ℕ)) : Type 0 where
+pub record ArePlaces (n : ℕ) (lines : List SystemLink) (places : List (Option ℕ)) : Type 0 where
   pub count : length places ≡ 65536
   pub each : (vl : ℕ) (place : Option ℕ) → slice_get places vl ≡ Some place → IsPlaceTo n lines vl place
 
-pub place_set : (n : ℕ) (lines : List Line) (places : List (Option ℕ)) (line : Line)
+pub place_set : (n : ℕ) (lines : List SystemLink) (places : List (Option ℕ)) (line : SystemLink)
     → ArePlaces n lines places → slice_get lines n ≡ Some line
     → ArePlaces (n + 1) lines (slice_set places line.vl.0 (Some n))
 place_set n lines places line a has = record {
@@ -138,7 +138,7 @@ place_set n lines places line a has = record {
       | inr other ↦ h i d (omega arith) k e
     ]
 
-pub all_places : (n : ℕ) (lines : List Line) (places : List (Option ℕ)) → ArePlaces n lines places
+pub all_places : (n : ℕ) (lines : List SystemLink) (places : List (Option ℕ)) → ArePlaces n lines places
     → length lines ≤ n → (vl : ℕ) (place : Option ℕ) → slice_get places vl ≡ Some place
     → IsPlaceIn lines vl place
 all_places n lines places a all vl (Some place) h = a.each vl (Some place) h
@@ -231,7 +231,7 @@ are_sent t place s law lawful admitted row own = record {
   jitters = jitters_are t place s admitted row own;
 }
 
-all_none : (links : List LinkRow) (lines : List Line) → AreNewLines links lines
+all_none : (links : List LinkRow) (lines : List SystemLink) → AreNewLines links lines
     → map (λ l. next_time_of l.regulator) lines ≡ replicate (length lines) None
 all_none [] [] a = refl
 all_none [] (line ∷ lines) a = absurd (let c = a.count in omega arith)
@@ -245,7 +245,7 @@ all_none (l ∷ links) (line ∷ lines) a =
     }) in
     ap (λ z. z ∷ map (λ l. next_time_of l.regulator) lines) one ∙ ap (λ z. None ∷ z) rest
 
-all_empty : (links : List LinkRow) (lines : List Line) → AreNewLines links lines
+all_empty : (links : List LinkRow) (lines : List SystemLink) → AreNewLines links lines
     → sum_by (λ l. held_by l.regulator) lines ≡ 0
 all_empty links [] a = refl
 all_empty [] (line ∷ lines) a = absurd (let c = a.count in omega arith)
@@ -319,12 +319,12 @@ stands_new w t place s are n =
     length_replicate (suc k) y = ap (λ z. suc z) (length_replicate k y)
 
     line_of : (i : ℕ) (l : LinkRow) → slice_get (links_from t.links place) i ≡ Some l
-        → (line : Line) × (slice_get w.lines.items i ≡ Some line)
+        → (line : SystemLink) × (slice_get w.lines.items i ≡ Some line)
     line_of i l h = slice_get-within w.lines.items i
         (let k = slice_get_within (links_from t.links place) i l h in let c = n.lines.count in
         omega arith)
 
-    row_of : (i : ℕ) (line : Line) → slice_get w.lines.items i ≡ Some line → (l : LinkRow)
+    row_of : (i : ℕ) (line : SystemLink) → slice_get w.lines.items i ≡ Some line → (l : LinkRow)
         × (slice_get (links_from t.links place) i ≡ Some l)
     row_of i line h = slice_get-within (links_from t.links place) i
         (let k = slice_get_within w.lines.items i line h in let c = n.lines.count in omega arith)

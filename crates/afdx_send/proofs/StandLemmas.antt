@@ -23,8 +23,8 @@ use Rattle.afdx_port.specs.Schedule as slots
 use Rattle.afdx_port.specs.History as port
 use Rattle.afdx_port.specs.declared.left.Left.{Left}
 use Rattle.afdx_port.specs.declared.port_state.PortState.{PortState}
-use Rattle.afdx_send.specs.declared.agenda.Agenda.{Agenda}
-use Rattle.afdx_send.specs.declared.line.Line.{Line}
+use Rattle.afdx_send.specs.declared.agenda.ReleaseAgenda.{ReleaseAgenda}
+use Rattle.afdx_send.specs.declared.line.SystemLink.{SystemLink}
 use Rattle.afdx_send.specs.declared.sender_state.SenderState.{SenderState}
 use Rattle.afdx_send.specs.Agenda.{NoneBefore, IsPlayed, IsSoonest, nexts}
 use Rattle.afdx_send.specs.Emissions.{LinkRelease, own, own_submissions, IsNextOf, IsNextOfAll}
@@ -140,14 +140,15 @@ take_stands w (Some left) out until idle clock early timely given none h st =
     }
 
 -- the line and the row of one place
-pub record IsAt (w : SenderState) (h : SenderHistory) (st : StandsFor w h) (place : ℕ) (line : Line) : Type 0 where
-  pub row : LinkRow
-  pub link : slice_get h.links place ≡ Some row
-  pub stands : LineStands line row (own_submissions h.taken place) (own place st.released)
-  pub systems : ℕ
-  pub lawful : IsLink systems row
+pub record IsAt (w : SenderState) (h : SenderHistory) (st : StandsFor w h) (place : ℕ) (line : SystemLink) : Type 0
+  where
+    pub row : LinkRow
+    pub link : slice_get h.links place ≡ Some row
+    pub stands : LineStands line row (own_submissions h.taken place) (own place st.released)
+    pub systems : ℕ
+    pub lawful : IsLink systems row
 
-pub line_at : (w : SenderState) (h : SenderHistory) (st : StandsFor w h) (place : ℕ) (line : Line)
+pub line_at : (w : SenderState) (h : SenderHistory) (st : StandsFor w h) (place : ℕ) (line : SystemLink)
     → slice_get w.lines.items place ≡ Some line → IsAt w h st place line
 line_at w h st place line has =
     let below : place < length h.links =
@@ -170,12 +171,12 @@ pub next_at : (w : SenderState) (h : SenderHistory) (st : StandsFor w h) (i : �
     ≡ Some (Some r.time)
 next_at w h st i l r g n = by_line (slice_get w.lines.items i) refl
   where
-    none : (xs : List Line) (j : ℕ) → j < length xs → slice_get xs j ≡ None → ⊥
+    none : (xs : List SystemLink) (j : ℕ) → j < length xs → slice_get xs j ≡ None → ⊥
     none [] j lt e = omega arith
     none (x ∷ xs) zero lt e = cc e
     none (x ∷ xs) (suc j) lt e = none xs j (omega arith) e
 
-    by_line : (o : Option Line) → slice_get w.lines.items i ≡ o → slice_get (nexts_of w) i ≡ Some (Some r.time)
+    by_line : (o : Option SystemLink) → slice_get w.lines.items i ≡ o → slice_get (nexts_of w) i ≡ Some (Some r.time)
     by_line None e = absurd (none w.lines.items i
         (let k = slice_get_within h.links i l g in let c = st.count in omega arith) e)
     by_line (Some line) e =
@@ -192,8 +193,8 @@ next_at w h st i l r g n = by_line (slice_get w.lines.items i) refl
         (own i st.released) r ls.regulates n')
 
 -- the next release of all
-pub next_of_all : (w : SenderState) (h : SenderHistory) (st : StandsFor w h) (t place : ℕ) (line : Line)
-    (l : LinkRow) (f : Frame) (new : Line) → IsSoonest (nexts_of w) t place →
+pub next_of_all : (w : SenderState) (h : SenderHistory) (st : StandsFor w h) (t place : ℕ) (line : SystemLink)
+    (l : LinkRow) (f : Frame) (new : SystemLink) → IsSoonest (nexts_of w) t place →
     slice_get h.links place ≡ Some l
     → (k : LineReleases line l (own_submissions h.taken place) (own place st.released) t f new) →
     IsNextOfAll h.links h.taken st.released (record { place = place; row = l; release = k.r })
@@ -212,10 +213,10 @@ pub none_before : (w : SenderState) (h : SenderHistory) (st : StandsFor w h) (t 
 none_before w h st t none i l r g n = none i r.time (next_at w h st i l r g n)
 
 -- each link stands as before, but for the one that released
-line_after : (w : SenderState) (h : SenderHistory) (st : StandsFor w h) (place : ℕ) (line' : Line)
+line_after : (w : SenderState) (h : SenderHistory) (st : StandsFor w h) (place : ℕ) (line' : SystemLink)
     (l : LinkRow) (r : Release) → slice_get h.links place ≡ Some l →
     LineStands line' l (own_submissions h.taken place) (r ∷ own place st.released) →
-    (i : ℕ) (line1 : Line) (l1 : LinkRow) → slice_get (slice_set w.lines.items place line') i
+    (i : ℕ) (line1 : SystemLink) (l1 : LinkRow) → slice_get (slice_set w.lines.items place line') i
     ≡ Some line1 → slice_get h.links i ≡ Some l1 →
     LineStands line1 l1 (own_submissions h.taken i)
     (own i (record { place = place; row = l; release = r } ∷ st.released))
@@ -233,7 +234,7 @@ line_after w h st place line' l r row stands i line1 l1 a b =
           (sym (own_mine x st.released)) stands in
           let two : LineStands line1 l (own_submissions h.taken place)
           (own place (x ∷ st.released)) =
-          subst (λ (z : Line). LineStands z l (own_submissions h.taken place)
+          subst (λ (z : SystemLink). LineStands z l (own_submissions h.taken place)
           (own place (x ∷ st.released))) (sym same) one in
           let three : LineStands line1 l1 (own_submissions h.taken place)
           (own place (x ∷ st.released)) =
@@ -246,11 +247,11 @@ line_after w h st place line' l r row stands i line1 l1 a b =
     ]
 
 -- after it, no link releases before its time
-timely_after : (w : SenderState) (time place : ℕ) (line' : Line) → IsSoonest (nexts_of w) time place
+timely_after : (w : SenderState) (time place : ℕ) (line' : SystemLink) → IsSoonest (nexts_of w) time place
     → ((t : ℕ) → next_time_of line'.regulator ≡ Some t → time ≤ t) →
     NoneBefore (map (λ l. next_time_of l.regulator) (slice_set w.lines.items place line')) time
 timely_after w time place line' soonest later i u e =
-    let f : Line → Option ℕ = λ l. next_time_of l.regulator in
+    let f : SystemLink → Option ℕ = λ l. next_time_of l.regulator in
     let e' = subst (λ (z : List (Option ℕ)). slice_get z i ≡ Some (Some u)) (map-set f w.lines.items place line') e in
     elim (cases_eq i place) [
       | inl k ↦ later u (sym (get_set_same (nexts_of w) place (next_time_of line'.regulator)
@@ -260,7 +261,7 @@ timely_after w time place line' soonest later i u e =
     ]
 
 -- the line that is read is the one that releases next
-pub record IsDueLine (w : SenderState) (time place : ℕ) (line : Line) : Type 0 where
+pub record IsDueLine (w : SenderState) (time place : ℕ) (line : SystemLink) : Type 0 where
   pub below : place < length w.lines.items
   pub has : slice_get w.lines.items place ≡ Some line
   pub due : next_time_of line.regulator ≡ Some time
@@ -273,7 +274,7 @@ due_place w time place soonest =
       length-map w.lines.items (λ l. next_time_of l.regulator),
     )
 
-pub line_read : (w : SenderState) (time place : ℕ) (line : Line) → IsSoonest (nexts_of w) time place
+pub line_read : (w : SenderState) (time place : ℕ) (line : SystemLink) → IsSoonest (nexts_of w) time place
     → line ≡ slice_index_or w.lines.items place line → IsDueLine w time place line
 line_read w time place line soonest read =
     let below = due_place w time place soonest in
@@ -288,11 +289,11 @@ line_read w time place line soonest read =
     }
 
 -- and it is within the limits of the port
-pub record IsInLimits (line : Line) (time : ℕ) : Type 0 where
+pub record IsInLimits (line : SystemLink) (time : ℕ) : Type 0 where
   pub gap : line.regulator.bag ≤ 128000000
   pub limit : time ≤ 1000032768000000
 
-pub in_limits : (w : SenderState) (h : SenderHistory) (time place : ℕ) (line : Line) → StandsFor w h
+pub in_limits : (w : SenderState) (h : SenderHistory) (time place : ℕ) (line : SystemLink) → StandsFor w h
     → IsDueLine w time place line → IsInLimits line time
 in_limits w h time place line st d =
     let k = line_at w h st place line d.has in
@@ -317,8 +318,8 @@ frame_is f vl least number m a b c d =
     ∙ ap (λ z. record { vl = vl; least = least; number = number; message = z }) d
 
 -- what a release is put into the port as
-pub entry_is : (line : Line) (l : LinkRow) (ss : List Submission) (rs : List Release)
-    (place time : ℕ) (f : Frame) (new : Line) → LineStands line l ss rs
+pub entry_is : (line : SystemLink) (l : LinkRow) (ss : List Submission) (rs : List Release)
+    (place time : ℕ) (f : Frame) (new : SystemLink) → LineStands line l ss rs
     → (k : LineReleases line l ss rs time f new) →
     f.vl ≡ line.vl.0 → f.least ≡ line.least → f.number ≡ line.number
     → port.entry_of facts time Low f
@@ -332,7 +333,7 @@ entry_is line l ss rs place time f new st k vl least number =
     ∙ ap (λ z. port.entry_of facts z Low (released_frame l (length rs) k.r)) (sym k.at)
 
 -- the next release of all enters the port
-pub record Releases (w : SenderState) (time place : ℕ) (line line' : Line) (f : Frame) (ag : Agenda)
+pub record Releases (w : SenderState) (time place : ℕ) (line line' : SystemLink) (f : Frame) (ag : ReleaseAgenda)
     (out : PortState Frame) : Type 0 where
   pub idle : w.ready ≡ None
   pub soonest : IsSoonest (nexts_of w) time place
@@ -351,8 +352,8 @@ pub record Releases (w : SenderState) (time place : ℕ) (line line' : Line) (f 
   pub put : (hp : port.PortHistory Frame) → port.StandsFor facts w.output hp
       → port.StandsFor facts out (port.with_put hp (port.entry_of facts time Low f))
 
-pub release_stands : (w : SenderState) (h : SenderHistory) (time place : ℕ) (line line' : Line) (f : Frame)
-    (ag : Agenda) (out : PortState Frame) → StandsFor w h → Releases w time place line line' f ag out →
+pub release_stands : (w : SenderState) (h : SenderHistory) (time place : ℕ) (line line' : SystemLink) (f : Frame)
+    (ag : ReleaseAgenda) (out : PortState Frame) → StandsFor w h → Releases w time place line line' f ag out →
     StandsFor (record w { lines = with_item w.lines place line'; agenda = ag; output = out }) h
 release_stands w h time place line line' f ag out st q =
     let a = line_at w h st place line q.due.has in
@@ -361,7 +362,7 @@ release_stands w h time place line line' f ag out st q =
     let x : LinkRelease = record { place = place; row = l; release = k.r } in
     let e = entry_is line l (own_submissions h.taken place) (own place st.released) place time f
     line' a.stands k q.vl q.least q.number in
-    let g : Line → Option ℕ = λ l. next_time_of l.regulator in
+    let g : SystemLink → Option ℕ = λ l. next_time_of l.regulator in
     record {
       system_id = st.system_id;
       partition = st.partition;
@@ -399,21 +400,21 @@ release_stands w h time place line line' f ag out st q =
     }
 
 -- each release takes one message
-pub held_after : (w : SenderState) (place : ℕ) (line line' : Line) → slice_get w.lines.items place
+pub held_after : (w : SenderState) (place : ℕ) (line line' : SystemLink) → slice_get w.lines.items place
     ≡ Some line → held_by line'.regulator + 1 ≡ held_by line.regulator →
     sum_by (λ l. held_by l.regulator) (slice_set w.lines.items place line') + 1 ≡ messages_held w
 held_after w place line line' has one =
-    let f : Line → ℕ = λ l. held_by l.regulator in
+    let f : SystemLink → ℕ = λ l. held_by l.regulator in
     let s = sum_by-set f w.lines.items place line' line (slice_get_within w.lines.items place line has) in
     let e = get_or_from_slice_get w.lines.items place line line has in
     let s' = rw e at s in
     omega arith
 
-pub held_more : (w : SenderState) (place : ℕ) (line line' : Line) → slice_get w.lines.items place
+pub held_more : (w : SenderState) (place : ℕ) (line line' : SystemLink) → slice_get w.lines.items place
     ≡ Some line → held_by line'.regulator ≡ held_by line.regulator + 1 →
     sum_by (λ l. held_by l.regulator) (slice_set w.lines.items place line') ≡ messages_held w + 1
 held_more w place line line' has one =
-    let f : Line → ℕ = λ l. held_by l.regulator in
+    let f : SystemLink → ℕ = λ l. held_by l.regulator in
     let s = sum_by-set f w.lines.items place line' line (slice_get_within w.lines.items place line has) in
     let e = get_or_from_slice_get w.lines.items place line line has in
     let s' = rw e at s in

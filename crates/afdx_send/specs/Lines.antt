@@ -9,7 +9,7 @@ use Rattle.afdx_config.specs.Numbers.{after_steps}
 use Rattle.afdx_config.specs.Rows.{LinkRow}
 use Rattle.afdx_send.specs.declared.fault.SendFault.{SendFault}
 use Rattle.afdx_send.specs.declared.fault.SendFault.TheVariants.{NotMyLink, NoSuchSub, Empty, TooLarge, QueueFull, Memory}
-use Rattle.afdx_send.specs.declared.line.Line.{Line}
+use Rattle.afdx_send.specs.declared.line.SystemLink.{SystemLink}
 use Rattle.afdx_send.specs.declared.regulator.Queued.{Queued}
 use Rattle.afdx_send.specs.declared.regulator.Regulator.{Regulator}
 use Rattle.afdx_send.specs.Frames.{Frame}
@@ -17,7 +17,7 @@ use Rattle.afdx_send.specs.Regulator.{Regulates, HasQueue, submission_of, waitin
 use Rattle.afdx_send.specs.Releases.{Submission, Release, IsMessage, IsNext, queue_limit}
 
 -- the line is that of a row
-pub record IsLineOf (l : LinkRow) (line : Line) : Type 0 where
+pub record IsLineOf (l : LinkRow) (line : SystemLink) : Type 0 where
   pub vl : line.vl.0 ≡ l.vl
   pub least : line.least ≡ l.lmin
   pub longest : line.longest ≡ l.lmax
@@ -37,7 +37,7 @@ pub record IsTimely (p : Regulator) (ss : List Submission) : Type 0 where
   pub balance : p.earliest + held_by p * p.bag ≤ latest_listed + 257 * p.bag
 
 -- what a link keeps is what its own submissions and its own releases leave
-pub record LineStands (line : Line) (l : LinkRow) (ss : List Submission) (rs : List Release)
+pub record LineStands (line : SystemLink) (l : LinkRow) (ss : List Submission) (rs : List Release)
     : Type 0 where
   pub is_line : IsLineOf l line
   pub regulates : Regulates line.regulator ss rs
@@ -49,8 +49,8 @@ pub record LineStands (line : Line) (l : LinkRow) (ss : List Submission) (rs : L
   pub number : line.number ≡ after_steps (length rs) 0
 
 -- the link's next release, as the message that enters the port
-pub record LineReleases (line : Line) (l : LinkRow) (ss : List Submission) (rs : List Release)
-    (time : ℕ) (f : Frame) (new : Line) : Type 0 where
+pub record LineReleases (line : SystemLink) (l : LinkRow) (ss : List Submission) (rs : List Release)
+    (time : ℕ) (f : Frame) (new : SystemLink) : Type 0 where
   pub r : Release
   pub next : IsNext (bag (regulation_of_link l)) l.subs ss rs r
   pub at : r.time ≡ time
@@ -58,11 +58,11 @@ pub record LineReleases (line : Line) (l : LinkRow) (ss : List Submission) (rs :
   pub stands : LineStands new l ss (r ∷ rs)
 
 -- the link has this sub-VL
-abbrev pub IsSubOf : Line → ℕ → Type 0
+abbrev pub IsSubOf : SystemLink → ℕ → Type 0
 IsSubOf line sub = (1 ≤ sub) × (sub ≤ sub_count line.regulator)
 
 -- why a message of n bytes isn't taken for a sub-VL: the first of these that is true
-abbrev pub LineRefuses : Line → ℕ → ℕ → SendFault → Type 0
+abbrev pub LineRefuses : SystemLink → ℕ → ℕ → SendFault → Type 0
 LineRefuses line sub n NotMyLink = ⊥
 LineRefuses line sub n NoSuchSub = (sub ≡ 0) ⊎ (sub_count line.regulator < sub)
 LineRefuses line sub n Empty = IsSubOf line sub × (n ≡ 0)
@@ -73,7 +73,7 @@ LineRefuses line sub n QueueFull = IsSubOf line sub × (1 ≤ n) × (n + frame_o
 LineRefuses line sub n Memory = ⊥
 
 -- it is
-pub record LineAdmits (line : Line) (sub n : ℕ) : Type 0 where
+pub record LineAdmits (line : SystemLink) (sub n : ℕ) : Type 0 where
   pub is_sub : IsSubOf line sub
   pub some : 1 ≤ n
   pub fits : n + frame_overhead ≤ line.longest
@@ -84,7 +84,7 @@ pub record LineAdmits (line : Line) (sub n : ℕ) : Type 0 where
       length ms < queue_limit
 
 -- a further message can join the queue at this index
-pub record CanTake (line : Line) (index : ℕ) (m : Queued) : Type 0 where
+pub record CanTake (line : SystemLink) (index : ℕ) (m : Queued) : Type 0 where
   pub within : index < sub_count line.regulator
   pub message : IsMessage (submission_of (index + 1) m).message
   pub fits : length m.payload.items + frame_overhead ≤ line.longest

@@ -22,7 +22,7 @@ use Rattle.afdx_port.specs.Schedule.{Turn, IsSchedule}
 use Rattle.afdx_port.specs.declared.left.Left.{Left}
 use Rattle.afdx_send.specs.declared.fault.SendFault.{SendFault}
 use Rattle.afdx_send.specs.declared.fault.SendFault.TheVariants.{NotMyLink, NoSuchSub, Empty, TooLarge, QueueFull, Memory}
-use Rattle.afdx_send.specs.declared.line.Line.{Line}
+use Rattle.afdx_send.specs.declared.line.SystemLink.{SystemLink}
 use Rattle.afdx_send.specs.declared.sender.Emission.{Emission}
 use Rattle.afdx_send.specs.declared.sender_state.SenderState.{SenderState}
 use Rattle.afdx_send.specs.Agenda.{NoneBefore, IsPlayed, nexts}
@@ -171,7 +171,7 @@ pub record StandsFor (w : SenderState) (h : SenderHistory) : Type 0 where
   pub before : AllByRecursion (λ x. x.release.time < h.time) released
   pub count : length w.lines.items ≡ length h.links
   pub lists : length h.taken ≡ length h.links
-  pub lines : (i : ℕ) (line : Line) (l : LinkRow) →
+  pub lines : (i : ℕ) (line : SystemLink) (l : LinkRow) →
       slice_get w.lines.items i ≡ Some line →
       slice_get h.links i ≡ Some l →
       LineStands line l (own_submissions h.taken i) (own i released)

@@ -8,7 +8,7 @@ use std::alloc::{AllocError, Global};
 
 /// When a link's next release is. `place` is the link's.
 #[derive(Clone, Copy, Debug, PartialEq, Eq, Drop)]
-pub(crate) struct Next {
+pub(crate) struct NextRelease {
     pub(crate) time: u64,
     pub(crate) place: usize,
 }
@@ -19,13 +19,13 @@ pub(crate) struct Next {
 /// them, from 1 on, is the sooner of the two at twice its index and one more. So node 1 is the
 /// soonest.
 #[derive(Drop)]
-pub(crate) struct Agenda {
+pub(crate) struct ReleaseAgenda {
     count: usize,
-    nodes: Vec<Option<Next>>,
+    nodes: Vec<Option<NextRelease>>,
 }
 
 /// Whether the first goes before the other.
-fn is_ahead(x: Next, y: Next) -> bool
+fn is_ahead(x: NextRelease, y: NextRelease) -> bool
     ensures ahead { IsTrue result → IsAhead (Some x) (Some y) }
     ensures behind { result ≡ false → IsAhead (Some y) (Some x) }
 {
@@ -36,7 +36,7 @@ fn is_ahead(x: Next, y: Next) -> bool
     }
 }
 
-fn sooner(a: Option<Next>, b: Option<Next>) -> Option<Next>
+fn sooner(a: Option<NextRelease>, b: Option<NextRelease>) -> Option<NextRelease>
     ensures { IsSooner result a b }
 {
     match (a, b) {
@@ -46,7 +46,7 @@ fn sooner(a: Option<Next>, b: Option<Next>) -> Option<Next>
     }
 }
 
-fn is_same(a: Option<Next>, b: Option<Next>) -> bool
+fn is_same(a: Option<NextRelease>, b: Option<NextRelease>) -> bool
     ensures { IsTrue result → a ≡ b }
 {
     match (a, b) {
@@ -57,18 +57,18 @@ fn is_same(a: Option<Next>, b: Option<Next>) -> bool
 }
 
 /// The node of a link.
-fn leaf(time: Option<u64>, place: usize) -> Option<Next>
+fn leaf(time: Option<u64>, place: usize) -> Option<NextRelease>
     ensures { result ≡ option_map (next_with place) time }
 {
     match time {
-        Some(time) => Some(Next { time, place }),
+        Some(time) => Some(NextRelease { time, place }),
         None => None,
     }
 }
 
-impl Agenda {
+impl ReleaseAgenda {
     /// No link of so many has a release.
-    pub(crate) fn new(alloc: Global, count: usize) -> Result<Agenda, AllocError>
+    pub(crate) fn new(alloc: Global, count: usize) -> Result<ReleaseAgenda, AllocError>
         requires { count ≤ most_links }
         ensures played { IfOk result (λ a. IsPlayed a) }
         ensures none { IfOk result (λ a. nexts a ≡ replicate count None) }
@@ -78,11 +78,11 @@ impl Agenda {
         for _ in 0..2 * count {
             nodes.push(None)?;
         }
-        Ok(Agenda { count, nodes })
+        Ok(ReleaseAgenda { count, nodes })
     }
 
     /// The soonest release, and of those at one moment that of the link which stands first.
-    pub(crate) fn first(&self) -> Option<Next>
+    pub(crate) fn first(&self) -> Option<NextRelease>
         requires played { IsPlayed self.now }
         ensures { MatchOption result ((t : ℕ) → NoneBefore (nexts self.now) t)
             (λ next. IsSoonest (nexts self.now) next.time next.place) }

@@ -6,12 +6,12 @@ ghost use Rattle.afdx_config.specs.Admission.{links_from};
 ghost use Rattle.afdx_config.specs.Lawful.{IsLinkUpTo, jitter_from_any};
 ghost use Rattle.afdx_config.specs.Reading.{most_links};
 ghost use Rattle.afdx_config.specs.Rows.{SystemRow, LinkRow, link_row};
-ghost use Rattle.afdx_send.specs.declared.line.Line.{Line};
+ghost use Rattle.afdx_send.specs.declared.line.SystemLink.{SystemLink};
 ghost use Rattle.afdx_send.specs.Sender.{IsSenderSound, IsQuiet, StandsFor, no_calls, last_time, frames_held};
 ghost use Rattle.afdx_send.specs.New.{IsNewLine, AreNewLines, IsPlaceIn};
 
-use crate::agenda::Agenda;
-use crate::line::Line;
+use crate::agenda::ReleaseAgenda;
+use crate::line::SystemLink;
 use crate::regulator::Regulator;
 use crate::rooms::Rooms;
 use crate::sender_state::SenderState;
@@ -25,11 +25,11 @@ use std::alloc::{AllocError, Global};
 const BUFFER: u64 = 65_536;
 
 /// What the sender keeps of a link.
-fn line(alloc: Global, link: &Link) -> Result<Line, AllocError>
+fn line(alloc: Global, link: &Link) -> Result<SystemLink, AllocError>
     requires { (n : ℕ) × IsLinkUpTo jitter_from_any n (link_row link.now) }
     ensures { IfOk result (λ line. IsNewLine (link_row link.now) line) }
 {
-    Ok(Line {
+    Ok(SystemLink {
         vl: link.vl,
         least: link.lmin as u16,
         longest: link.lmax,
@@ -39,7 +39,11 @@ fn line(alloc: Global, link: &Link) -> Result<Line, AllocError>
 }
 
 /// Of each link that the system sends.
-fn new_lines(alloc: Global, tables: &Tables, system: SystemId) -> Result<Vec<Line>, AllocError>
+fn new_lines(
+    alloc: Global,
+    tables: &Tables,
+    system: SystemId,
+) -> Result<Vec<SystemLink>, AllocError>
     ensures new { IfOk result (λ v. AreNewLines (links_from tables.now.links system.0) v.items) }
     ensures count { IfOk result (λ v. vec_len v ≤ most_links) }
 {
@@ -54,7 +58,7 @@ fn new_lines(alloc: Global, tables: &Tables, system: SystemId) -> Result<Vec<Lin
 }
 
 /// By identifier, the place of its line.
-fn new_places(alloc: Global, lines: &Vec<Line>) -> Result<Vec<Option<u16>>, AllocError>
+fn new_places(alloc: Global, lines: &Vec<SystemLink>) -> Result<Vec<Option<u16>>, AllocError>
     requires { vec_len lines.now ≤ most_links }
     ensures count { IfOk result (λ v. vec_len v ≡ identifier_count) }
     ensures each { IfOk result (λ v. (vl : ℕ) (place : Option ℕ) →
@@ -91,7 +95,7 @@ pub(crate) fn build(
     let row = tables.system(system);
     let lines = new_lines(alloc, tables, system)?;
     let places = new_places(alloc, &lines)?;
-    let agenda = Agenda::new(alloc, lines.len())?;
+    let agenda = ReleaseAgenda::new(alloc, lines.len())?;
     let byte_ns = tables.byte_ns(system);
     let output = Port::new(alloc, byte_ns, BUFFER)?;
     Ok(SenderState {

@@ -11,7 +11,7 @@ use afdx_frame::{FRAME_OVERHEAD, VlId};
 
 /// A link of the system.
 #[derive(Drop)]
-pub(crate) struct Line {
+pub(crate) struct SystemLink {
     pub(crate) vl: VlId,
     /// The least and the greatest length of its frames.
     pub(crate) least: u16,
@@ -29,7 +29,7 @@ fn next_number(number: u8) -> u8
     if number == 255 { 1 } else { number + 1 }
 }
 
-impl Line {
+impl SystemLink {
     ghost use Rattle.afdx_config.specs.Rows.{LinkRow};
     ghost use Rattle.afdx_send.specs.Regulator.{next_time_of, waiting_of};
     ghost use Rattle.afdx_send.specs.Releases.{Submission, Release};

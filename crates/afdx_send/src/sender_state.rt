@@ -6,10 +6,10 @@ ghost use Rattle.std.specs.Prelude.{slice_get, sum_by, vec_len};
 ghost use Rattle.afdx_frame.specs.Times.{latest_listed};
 ghost use Rattle.afdx_port.specs.Times.{drain_end};
 
-use crate::agenda::Agenda;
+use crate::agenda::ReleaseAgenda;
 use crate::fault::SendFault;
 use crate::laws::emissions_are_lawful;
-use crate::line::Line;
+use crate::line::SystemLink;
 use crate::regulator::Queued;
 use crate::released::Released;
 use crate::rooms::Rooms;
@@ -27,11 +27,11 @@ pub(crate) struct SenderState {
     /// The last time used.
     pub(crate) clock: u64,
     /// The system's links, in the order of the tables.
-    pub(crate) lines: Vec<Line>,
+    pub(crate) lines: Vec<SystemLink>,
     /// By identifier, the place of its link.
     pub(crate) places: Vec<Option<u16>>,
     /// When each link's next release is.
-    pub(crate) agenda: Agenda,
+    pub(crate) agenda: ReleaseAgenda,
     pub(crate) output: Port<Released>,
     /// What left the port and isn't emitted yet.
     pub(crate) ready: Option<Left<Released>>,
@@ -63,7 +63,7 @@ impl SenderState {
     ghost use Rattle.afdx_frame.specs.declared.link.Side.TheVariants.{A, B};
     ghost use Rattle.afdx_frame.specs.Grammar.{built_frame};
     ghost use Rattle.afdx_port.specs.Held as held;
-    ghost use Rattle.afdx_send.specs.declared.line.Line.{Line};
+    ghost use Rattle.afdx_send.specs.declared.line.SystemLink.{SystemLink};
     ghost use Rattle.afdx_send.specs.Calls.{Submits, Emits};
     ghost use Rattle.afdx_send.specs.Agenda.{NoneBefore, IsPlayed, IsSoonest, nexts};
     ghost use Rattle.afdx_send.specs.Emissions.{IsSending};
@@ -266,7 +266,7 @@ impl SenderState {
     fn add(&mut self, place: usize, index: usize, message: Queued) -> Result<(), AllocError>
         requires sound { IsSenderSound self.old }
         requires place { place < length self.old.lines.items }
-        requires queue { (line : Line) → slice_get self.old.lines.items place ≡ Some line →
+        requires queue { (line : SystemLink) → slice_get self.old.lines.items place ≡ Some line →
             CanTake line index message }
         requires limit { message.time ≤ latest_listed }
         requires clock { self.old.clock ≡ message.time }

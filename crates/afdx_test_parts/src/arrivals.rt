@@ -4,7 +4,9 @@
 use afdx_config::ConfigFault;
 use afdx_frame::Side;
 use afdx_input_files::{CheckSequence, Recorded, RecordedFrame, Stamp};
-use afdx_input_sources::{Interfaces, Place, RecordingOptions, SystemPorts, UnsaidPort, becomes};
+use afdx_input_sources::{
+    Interfaces, RecordingOptions, SystemPorts, TapPoint, UnsaidPort, becomes,
+};
 use afdx_test_samples::{HELLO, base_tables, equal};
 use std::alloc::{AllocError, Global};
 use std::test::Fail;
@@ -46,8 +48,8 @@ type Unused = ([u64; 3], [Option<u64>; 3]);
 
 fn unused(alloc: Global) -> Result<Unused, AllocError> {
     let mut interfaces = Interfaces::new(alloc)?;
-    interfaces.put(2, Place::LeftOut);
-    interfaces.put(3, Place::OnSide(Side::A));
+    interfaces.put(2, TapPoint::LeftOut);
+    interfaces.put(3, TapPoint::OnSide(Side::A));
     let counts = [2, 3, 4];
     let least = counts.map(|count| interfaces.first_unused(count));
     Ok((counts.map(|count| interfaces.unused(count)), least))

@@ -1,7 +1,7 @@
 //! A stream whose arrivals and frames come one after another lets go of what it decided. What is
 //! found in streams is tried at the program (tests/run/conformance.py).
 
-use afdx_conform::{Arrived, CheckedBytes, Finding, Frame, Leeway, Spare, Stream};
+use afdx_conform::{Arrived, CheckedBytes, Finding, Leeway, LeftFrame, Spare, Stream};
 use afdx_frame::{Checked, Policing, Side, VlId};
 use afdx_police::LinkRule;
 use afdx_test_samples::{equal, hello};
@@ -46,7 +46,7 @@ fn pass(
         .came(Arrived::new(rule, number, came, Side::A, 1, bytes))?;
     decide_before(told, left)?;
     let bytes = CheckedBytes::of(&mut told.spare, Checked::new(frame))?;
-    told.stream.left(Frame {
+    told.stream.left(LeftFrame {
         number,
         time: left,
         bytes,

@@ -6,7 +6,7 @@ ghost use Rattle.afdx_text.specs.ConformLines.{answer_text, conform_text, found_
 ghost use Rattle.afdx_text.specs.ConformLines.{count_text, judged_line};
 
 use crate::piece::{put, put_number, put_piece, put_small};
-use crate::place::Place;
+use crate::place::LinePlace;
 use crate::strange::StrangeReason;
 use afdx_frame::Side;
 use afdx_police::Reason;
@@ -95,7 +95,7 @@ fn put_found(room: &mut [u8], at: usize, finding: &[u8], n: u64, side: Side, por
     let at = put(room, at, finding);
     let at = put_number(room, at, n);
     let at = put(room, at, b" ");
-    let at = Place::put(side, room, at);
+    let at = LinePlace::put(side, room, at);
     let at = put(room, at, b" ");
     put_small(room, at, port)
 }

@@ -10,14 +10,14 @@ ghost use Rattle.afdx_text.specs.OutLines.{refused_line, remark_line};
 
 use crate::numeral::Numeral;
 use crate::piece::{put, put_digits, put_number, put_piece, put_small};
-use crate::place::Place;
+use crate::place::LinePlace;
 use afdx_input_lines::FrameKind;
 use afdx_police::Reason;
 use afdx_receive::DropReason;
 
 /// The numbers that were put last: a time, a line of a list, and a link.
 #[derive(Debug, Drop)]
-pub(crate) struct Kept {
+pub(crate) struct LastNumbers {
     time: Numeral,
     n: Numeral,
     vl: Numeral,
@@ -68,7 +68,7 @@ fn put_why(room: &mut [u8], at: usize, why: DropReason) -> usize
 
 /// `V n place accept`, or `V n place drop WORD`.
 #[inline(never)]
-pub(crate) fn put_verdict<P: Place>(
+pub(crate) fn put_verdict<P: LinePlace>(
     room: &mut [u8],
     at: usize,
     n: u64,
@@ -91,7 +91,13 @@ pub(crate) fn put_verdict<P: Place>(
 
 /// `L n place port`.
 #[inline(never)]
-pub(crate) fn put_loss<P: Place>(room: &mut [u8], at: usize, n: u64, place: P, port: u8) -> usize
+pub(crate) fn put_loss<P: LinePlace>(
+    room: &mut [u8],
+    at: usize,
+    n: u64,
+    place: P,
+    port: u8,
+) -> usize
     requires { at + 128 + P.named place ≤ length room.old }
     ensures within { result ≤ at + 128 + P.named place }
     ensures text { take result room.new ≡ take at room.old ++ loss_line n (P.text place) port }
@@ -133,10 +139,10 @@ fn put_kind(room: &mut [u8], at: usize, kind: FrameKind) -> usize
     }
 }
 
-impl Kept {
+impl LastNumbers {
     /// No numbers were put yet.
-    pub(crate) fn new() -> Kept {
-        Kept {
+    pub(crate) fn new() -> LastNumbers {
+        LastNumbers {
             time: Numeral::zero(),
             n: Numeral::zero(),
             vl: Numeral::zero(),
@@ -145,7 +151,7 @@ impl Kept {
 
     /// The line of a departure, with the numbers that are kept.
     #[inline(never)]
-    fn put_left<P: Place>(
+    fn put_left<P: LinePlace>(
         &self,
         room: &mut [u8],
         at: usize,
@@ -212,7 +218,7 @@ impl Kept {
 
     /// `D n time place port`, or `T ..`.
     #[inline(always)]
-    pub(crate) fn put_departure<P: Place>(
+    pub(crate) fn put_departure<P: LinePlace>(
         &mut self,
         room: &mut [u8],
         at: usize,
@@ -276,7 +282,7 @@ impl Kept {
 
     /// `K time place port hex`.
     #[inline(never)]
-    pub(crate) fn put_listed<P: Place>(
+    pub(crate) fn put_listed<P: LinePlace>(
         &mut self,
         room: &mut [u8],
         at: usize,

@@ -6,7 +6,7 @@ use crate::check_lines::{
     put_apart, put_bounds, put_denial, put_end_to_end, put_margin, put_switch,
 };
 use crate::conform_line::{ConformLine, MOST_OF_CONFORM};
-use crate::kinds::{Kept, put_loss, put_refusal, put_remark, put_verdict};
+use crate::kinds::{LastNumbers, put_loss, put_refusal, put_remark, put_verdict};
 use crate::piece::put;
 use crate::site::Site;
 use afdx_frame::VlId;
@@ -165,7 +165,7 @@ impl OutLine<'_> {
 
     /// Puts the line at a place of the room, and tells where it ends.
     #[inline(always)]
-    pub(crate) fn put_at(&self, room: &mut [u8], at: usize, kept: &mut Kept) -> usize
+    pub(crate) fn put_at(&self, room: &mut [u8], at: usize, kept: &mut LastNumbers) -> usize
         requires { at + longest self.now ≤ length room.old }
         ensures within { result ≤ at + longest self.now }
         ensures text { take result room.new ≡ take at room.old ++ line_text self.now }

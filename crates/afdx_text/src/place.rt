@@ -9,7 +9,7 @@ use afdx_frame::Side;
 
 /// What a line says as its place: a side, or a side and the name of its switch. A function over
 /// each of them is compiled twice, so that the lines of one switch ask nothing of a name.
-pub(crate) trait Place: Copy {
+pub(crate) trait LinePlace: Copy {
     ghost text: { Self → List ℕ };
 
     /// How long a name it has.
@@ -22,7 +22,7 @@ pub(crate) trait Place: Copy {
         ensures text { take result room.new ≡ take at room.old ++ text self };
 }
 
-impl Place for Side {
+impl LinePlace for Side {
     ghost text = { side_text };
 
     ghost named = { λ side. 0 };
@@ -36,14 +36,14 @@ impl Place for Side {
     }
 }
 
-impl Place for Site<'_> {
+impl LinePlace for Site<'_> {
     ghost text = { site_text };
 
     ghost named = { λ site. length site.switch.now };
 
     #[inline(always)]
     fn put(self, room: &mut [u8], at: usize) -> usize {
-        let at = Place::put(self.side, room, at);
+        let at = LinePlace::put(self.side, room, at);
         if self.switch.is_empty() {
             return at;
         }

@@ -2,7 +2,7 @@
 
 ghost use Rattle.std.specs.Prelude.{◌≡◌, ◌≤◌, ◌<◌, ◌+◌, ◌++◌, [], OnOk, OnErr, is_ok, true, length, drop, vec_len, IsTrue, ◌↔◌};
 
-use crate::kinds::Kept;
+use crate::kinds::LastNumbers;
 use crate::line::OutLine;
 use std::alloc::{AllocError, Global};
 
@@ -14,7 +14,7 @@ use std::alloc::{AllocError, Global};
 pub struct Text {
     room: Vec<u8>,
     end: usize,
-    kept: Kept,
+    kept: LastNumbers,
     ghost within: { end ≤ vec_len room },
 }
 
@@ -29,7 +29,7 @@ impl Text {
         Text {
             room: Vec::new(alloc),
             end: 0,
-            kept: Kept::new(),
+            kept: LastNumbers::new(),
         }
     }
 

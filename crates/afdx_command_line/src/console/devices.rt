@@ -18,26 +18,26 @@ pub fn name_of_input(word: &str) -> &str {
 
 /// A file, or standard input. Each call is passed on as it is.
 #[derive(Drop)]
-pub enum Input {
+pub enum InputDevice {
     File(File),
     Standard(Stdin),
 }
 
-impl Input {
+impl InputDevice {
     /// The input that a word names.
-    pub fn open(rt: &HostRuntime, word: &str) -> io::Result<Input> {
+    pub fn open(rt: &HostRuntime, word: &str) -> io::Result<InputDevice> {
         if word == STANDARD_INPUT {
-            return Ok(Input::Standard(rt.stdin()));
+            return Ok(InputDevice::Standard(rt.stdin()));
         }
-        Ok(Input::File(File::open(rt, word)?))
+        Ok(InputDevice::File(File::open(rt, word)?))
     }
 }
 
-impl Read for Input {
+impl Read for InputDevice {
     fn read(&mut self, buf: &mut [u8]) -> io::Result<usize> {
         match self {
-            Input::File(file) => file.read(buf),
-            Input::Standard(stdin) => stdin.read(buf),
+            InputDevice::File(file) => file.read(buf),
+            InputDevice::Standard(stdin) => stdin.read(buf),
         }
     }
 }
@@ -120,15 +120,15 @@ impl LastLine {
 
 /// A writer, and the last line that it took. Each call is passed on as it is.
 #[derive(Drop)]
-pub struct Heard<W> {
+pub struct WatchedWriter<W> {
     device: W,
     last: LastLine,
 }
 
-impl<W> Heard<W> {
+impl<W> WatchedWriter<W> {
     /// A device to which no line was written yet.
-    pub fn new(device: W) -> Heard<W> {
-        Heard {
+    pub fn new(device: W) -> WatchedWriter<W> {
+        WatchedWriter {
             device,
             last: LastLine {
                 bytes: [0; LONGEST],
@@ -155,7 +155,7 @@ impl<W> Heard<W> {
     }
 }
 
-impl<W: Write> Write for Heard<W> {
+impl<W: Write> Write for WatchedWriter<W> {
     ghost contents = { λ heard. W.contents heard.device };
 
     fn write(&mut self, buf: &[u8]) -> io::Result<usize> {

@@ -2,7 +2,7 @@
 
 use crate::console::devices::name_of_input;
 use crate::console::telling::tell_visible;
-use crate::locating::{Listing, Look, Switches, look_of, wrong_field};
+use crate::locating::{FoundSwitches, Listing, Look, look_of, wrong_field};
 use afdx_command_words::STANDARD_INPUT;
 use clap::ArgMatches;
 use std::fs::{File, metadata};
@@ -55,7 +55,7 @@ fn input_in<'a>(line: &str, matches: &ArgMatches<'a>) -> Option<&'a str> {
 }
 
 /// The lines that the list of a command has.
-fn listing_of(matches: &ArgMatches<'_>, switches: &Switches) -> Listing {
+fn listing_of(matches: &ArgMatches<'_>, switches: &FoundSwitches) -> Listing {
     if matches.contains_id("SUBMISSIONS") {
         return Listing::Submissions;
     }
@@ -106,7 +106,7 @@ fn tell_line(
     number: u64,
 ) {
     let name = name_of_input(word);
-    let switches = Switches::of(rt.alloc(), config);
+    let switches = FoundSwitches::of(rt.alloc(), config);
     let listing = listing_of(matches, &switches);
     let wrong = match line_at(rt, word, number) {
         Some(text) if line.contains(" BadLine ") => {
@@ -150,7 +150,7 @@ pub(crate) fn tell_input(rt: &HostRuntime, matches: &ArgMatches<'_>, config: &[u
 /// Tells which word of `--interface` names a place that the configuration hasn't.
 pub(crate) fn tell_absent_place(rt: &HostRuntime, matches: &ArgMatches<'_>, config: &[u8]) {
     let words = matches.get_strs("interface").unwrap_or(&[]);
-    let switches = Switches::of(rt.alloc(), config);
+    let switches = FoundSwitches::of(rt.alloc(), config);
     let Some((word, why)) = switches.absent_place(words) else {
         return;
     };

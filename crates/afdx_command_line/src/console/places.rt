@@ -12,7 +12,7 @@ const NOTHING: &str = "/";
 
 /// Files that are in the places of closed streams.
 #[derive(Drop)]
-pub struct Places {
+pub struct StandIns {
     _input: Option<File>,
     _output: Option<File>,
     _errors: Option<File>,
@@ -45,8 +45,8 @@ fn take_place<S: AsFd>(
 /// Takes the places of the standard streams that are closed, as long as the answer is held: so that
 /// no file gets one, and reading or writing the stream fails. No file may be open yet. Err: the
 /// fault, if that can't be done.
-pub fn take_places(rt: &HostRuntime) -> Result<Places, RunFault> {
-    Ok(Places {
+pub fn take_places(rt: &HostRuntime) -> Result<StandIns, RunFault> {
+    Ok(StandIns {
         _input: take_place(rt, &rt.stdin(), RunFault::Read)?,
         _output: take_place(rt, &rt.stdout(), RunFault::Write)?,
         _errors: take_place(rt, &rt.stderr(), RunFault::Write)?,

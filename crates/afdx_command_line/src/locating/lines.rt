@@ -1,7 +1,7 @@
 //! What is wrong with a line of a list that can't be read.
 
 use crate::locating::looks::is_number;
-use crate::locating::switches::Switches;
+use crate::locating::switches::FoundSwitches;
 use std::alloc::{AllocError, Global};
 
 /// The kinds of lists, by their lines.
@@ -59,7 +59,7 @@ impl Field {
     }
 
     /// Whether the word is one of these.
-    fn has(self, word: &str, switches: &Switches) -> bool {
+    fn has(self, word: &str, switches: &FoundSwitches) -> bool {
         match self {
             Field::Kind => matches!(word, "F" | "B" | "R"),
             Field::Time | Field::Port => is_number(word),
@@ -122,7 +122,7 @@ fn put_first(
     text: &mut String,
     listing: Listing,
     words: &[&str],
-    switches: &Switches,
+    switches: &FoundSwitches,
 ) -> Result<(), AllocError> {
     for (field, word) in listing.fields().iter().zip(words) {
         if !field.has(word, switches) {
@@ -138,7 +138,7 @@ fn put_first(
 pub fn wrong_field(
     alloc: Global,
     listing: Listing,
-    switches: &Switches,
+    switches: &FoundSwitches,
     line: &str,
 ) -> Option<String> {
     let mut words = Vec::new(alloc);

@@ -11,7 +11,7 @@ use toml::{Table, Value};
 /// The place that a fault's line names: the number of the switch, or 0 where it names none; the
 /// part, the number of its table, which is 0 for the top, and that of the key.
 #[derive(Clone, Copy)]
-struct Place<'a> {
+struct FaultPlace<'a> {
     switch: usize,
     part: &'a str,
     index: usize,
@@ -45,9 +45,9 @@ fn words_of(fault: &str) -> Option<Words<'_>> {
 }
 
 /// The place of a fault's line, or None where it has none.
-fn place_of(fault: &str) -> Option<Place<'_>> {
+fn place_of(fault: &str) -> Option<FaultPlace<'_>> {
     let words = words_of(fault)?;
-    Some(Place {
+    Some(FaultPlace {
         switch: words.switch.parse::<usize>().ok()?,
         part: words.part,
         index: words.index.parse::<usize>().ok()?,
@@ -61,7 +61,7 @@ pub(crate) fn has_switches(tree: &Table) -> bool {
 }
 
 /// The keys of the part, and the number of the first one.
-fn keys_at(tree: &Table, place: Place<'_>) -> (&'static [Key], usize) {
+fn keys_at(tree: &Table, place: FaultPlace<'_>) -> (&'static [Key], usize) {
     match place.part {
         "system" => (&SYSTEM_KEYS, 1),
         "link" => (&LINK_KEYS, 1),
@@ -74,7 +74,7 @@ fn keys_at(tree: &Table, place: Place<'_>) -> (&'static [Key], usize) {
 }
 
 /// The name of the key in its table: of the first key that isn't known, where its number is 0.
-fn name_at<'a>(tree: &Table, place: Place<'_>, row: &'a Table) -> Option<&'a str> {
+fn name_at<'a>(tree: &Table, place: FaultPlace<'_>, row: &'a Table) -> Option<&'a str> {
     let (keys, first) = keys_at(tree, place);
     if place.number == 0 {
         let is_unknown = |name: &&String| keys.iter().all(|key| key.0 != name.as_str());
@@ -92,7 +92,7 @@ struct Named<'a> {
 }
 
 /// The tables that a fault's line names, each in the one before it: a switch, and one of a part.
-fn tables_at<'a>(alloc: Global, tree: &'a Table, place: Place<'a>) -> Option<Vec<Named<'a>>> {
+fn tables_at<'a>(alloc: Global, tree: &'a Table, place: FaultPlace<'a>) -> Option<Vec<Named<'a>>> {
     let mut tables = Vec::new(alloc);
     let mut row = tree;
     for (array, number) in [("switch", place.switch), (place.part, place.index)] {

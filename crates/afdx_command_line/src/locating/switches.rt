@@ -6,7 +6,7 @@ use toml::{Table, Value};
 
 /// The switches of a configuration that describes several on a side.
 #[derive(Drop)]
-pub struct Switches {
+pub struct FoundSwitches {
     tree: Table,
 }
 
@@ -33,14 +33,14 @@ fn has_cable(row: &Value, port: &str) -> bool {
     rows_at(table, "neighbour").iter().any(is_there)
 }
 
-impl Switches {
+impl FoundSwitches {
     /// Those of a configuration, of which there are none where it isn't TOML.
-    pub fn of(alloc: Global, config: &[u8]) -> Switches {
+    pub fn of(alloc: Global, config: &[u8]) -> FoundSwitches {
         let tree = match toml::table_from_slice(alloc, config) {
             Ok(tree) => tree,
             Err(_) => Table::new(alloc),
         };
-        Switches { tree }
+        FoundSwitches { tree }
     }
 
     /// Whether there are several on a side.

@@ -5,7 +5,7 @@ ghost use Rattle.std.specs.Prelude.{true, false, IfOk, OnOk, MatchResult};
 ghost use Rattle.afdx_input_lines.specs.Calls.{is_failed_read};
 
 use super::FrameReader;
-use crate::block::{Head, Kind, head_of};
+use crate::block::{BlockHead, BlockKind, head_of};
 use crate::known::MOST_NUMBERS;
 use crate::order::Order;
 use afdx_input_lines::{Next, Progress, RecordingFault, RunFault, Watched};
@@ -73,7 +73,7 @@ impl FrameReader {
         ensures counts { CountsBlock result (state_of self.old) (state_of self.new) }
     {
         let head = self.head()?;
-        if head.kind == Kind::Packet && head.order == Order::LowFirst {
+        if head.kind == BlockKind::Packet && head.order == Order::LowFirst {
             self.hold_block(head, input)
         } else if head.kind.is_held() {
             self.hold_another(head, input)
@@ -85,7 +85,7 @@ impl FrameReader {
     /// What the first bytes of a block say.
     #[inline(always)]
     #[tactic(auto, unfolding(crate::specs::Pcapng::block_rest))]
-    fn head(&self) -> Result<Head, RunFault>
+    fn head(&self) -> Result<BlockHead, RunFault>
         requires { block_head ≤ length (unread self.now.held) }
         ensures few { OnOk result (self.now.known.blocks < most_numbers) }
         ensures least { IfOk result (λ head. least_of head.kind ≤ head.size) }
@@ -107,7 +107,7 @@ impl FrameReader {
     #[inline(always)]
     fn hold_block<R: Read>(
         &mut self,
-        head: Head,
+        head: BlockHead,
         input: &mut Watched<R>,
     ) -> Result<Progress, RunFault>
         requires sound { has_failed input.old ≡ false }
@@ -135,7 +135,7 @@ impl FrameReader {
     #[inline(never)]
     fn hold_another<R: Read>(
         &mut self,
-        head: Head,
+        head: BlockHead,
         input: &mut Watched<R>,
     ) -> Result<Progress, RunFault>
         requires sound { has_failed input.old ≡ false }
@@ -158,7 +158,7 @@ impl FrameReader {
 
     /// Takes a block that is held whole.
     #[inline(always)]
-    fn take_held(&mut self, head: Head) -> Result<Progress, RunFault>
+    fn take_held(&mut self, head: BlockHead) -> Result<Progress, RunFault>
         requires few { self.old.known.blocks < most_numbers }
         requires least { least_of head.kind ≤ head.size }
         requires held { head.size ≤ length (unread self.old.held) }
@@ -194,7 +194,7 @@ impl FrameReader {
     #[inline(never)]
     fn skip_block<R: Read>(
         &mut self,
-        head: Head,
+        head: BlockHead,
         input: &mut Watched<R>,
     ) -> Result<Progress, RunFault>
         requires sound { has_failed input.old ≡ false }
@@ -224,7 +224,7 @@ impl FrameReader {
 
     /// Takes a block of which the last bytes are held.
     #[inline(never)]
-    fn take_skipped(&mut self, head: Head) -> Result<Progress, RunFault>
+    fn take_skipped(&mut self, head: BlockHead) -> Result<Progress, RunFault>
         requires few { self.old.known.blocks < most_numbers }
         requires least { least_of head.kind ≤ head.size }
         requires skipped { is_held head.kind ≡ false }

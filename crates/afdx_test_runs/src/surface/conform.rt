@@ -1,6 +1,6 @@
 //! The items of `afdx_conform`.
 
-use afdx_conform::{Arrived, CheckedBytes, Counts, Finding, Frame, Leeway, Spare, Stream};
+use afdx_conform::{Arrived, CheckedBytes, Counts, Finding, Leeway, LeftFrame, Spare, Stream};
 use afdx_frame::{Checked, Policing, Side, VlId};
 use afdx_police::LinkRule;
 use afdx_test_samples::{equal, hello};
@@ -29,7 +29,7 @@ fn tell(spare: &mut Spare, stream: &mut Stream, rule: &LinkRule) -> Result<(), A
     came?;
     let time: u64 = 6_720;
     let bytes: CheckedBytes = CheckedBytes::of(spare, Checked::new(&hello(0)))?;
-    let left: Result<(), AllocError> = stream.left(Frame {
+    let left: Result<(), AllocError> = stream.left(LeftFrame {
         number,
         time,
         bytes,

@@ -10,7 +10,7 @@ use Rattle.afdx_conform.specs.Marks.{arrival_of, marked_all, told}
 use Rattle.afdx_conform.specs.Naming.{AreSettled, with_last}
 use Rattle.afdx_conform.specs.States.{State, led_by, states_at}
 use Rattle.afdx_conform.specs.declared.finding.Mark.{Mark}
-use Rattle.afdx_conform.specs.declared.states.Held.{Held}
+use Rattle.afdx_conform.specs.declared.states.StreamState.{StreamState}
 use Rattle.afdx_conform.proofs.ArrivalSteps.{stands-arrival, answered-none, more-marks, one-less}
 use Rattle.afdx_conform.proofs.DeviateSteps.{within-frames}
 use Rattle.afdx_conform.proofs.GapLemmas.{settled-push}
@@ -20,7 +20,7 @@ use Rattle.afdx_conform.proofs.arriving.go_wrong.Goals as goal
 
 pub returns-clause-defined : goal.returns-clause-defined
 returns-clause-defined c z last j b k at t fault sure none s =
-    let before = ap (λ (l : List Held). map (state_of (map gone_of c.args.recorded.now.frames.now)) l)
+    let before = ap (λ (l : List StreamState). map (state_of (map gone_of c.args.recorded.now.frames.now)) l)
     c.as_slice-states.ensures.value ∙ s.states in
     let mark = c.test_arrival-tested.ensures.reason z (map gone_of c.args.recorded.now.frames.now) last b.rates
     (k.charged fault) t.ns
@@ -32,7 +32,7 @@ returns-clause-defined c z last j b k at t fault sure none s =
     let held = c.in_ok-held.ensures.items ∙ c.as_slice-states.ensures.value in
     let len : c.len-from.result ≡ length c.args.judging.now.marks.items = search rules in
     let none_copied =
-    ap (λ (l : List Held).
+    ap (λ (l : List StreamState).
     (led_by (λ s. states_at z (arrival_of c.args.coming.now.arrived.now) (levels_then z s.levels last
     (arrival_of c.args.coming.now.arrived.now)) s) (map (state_of (map gone_of c.args.recorded.now.frames.now)) l)))
     held ∙ none in
@@ -40,7 +40,7 @@ returns-clause-defined c z last j b k at t fault sure none s =
     ap (λ (l : List State).
     (led_by (λ s. states_at z (arrival_of c.args.coming.now.arrived.now) (levels_then z s.levels last
     (arrival_of c.args.coming.now.arrived.now)) s) l)) (sym s.states) ∙ none in
-    let states = ap (λ (l : List Held). map (state_of (map gone_of c.args.recorded.now.frames.now)) l) held
+    let states = ap (λ (l : List StreamState). map (state_of (map gone_of c.args.recorded.now.frames.now)) l) held
     ∙ s.states in
     let whole = c.in_ok-outcome.ensures.defined z last j b (k.charged fault) t none_copied in
     let told_is = ap (λ (l : List Finding). told c.args.coming.now.arrived.now.time l
@@ -71,19 +71,20 @@ returns-clause-defined c z last j b k at t fault sure none s =
     c.in_ok-outcome.outcome.held.items) q)
     (sym told_is) in
     let within = c.in_ok-outcome.ensures.within (link z) z.by (length c.args.judging.now.marks.items) b.rates
-    (All-same (λ (h : Held). IsWithin c.args.bounds.now.rates (length c.args.recorded.now.frames.now)
+    (All-same (λ (h : StreamState). IsWithin c.args.bounds.now.rates (length c.args.recorded.now.frames.now)
     (length c.args.judging.now.marks.items) h) _ _
     held
     s.within) in
-    let within_slice = All-same (λ (h : Held). IsWithin c.args.bounds.now.rates (length c.args.recorded.now.frames.now)
+    let within_slice = All-same
+    (λ (h : StreamState). IsWithin c.args.bounds.now.rates (length c.args.recorded.now.frames.now)
     (length c.args.judging.now.marks.items + 1) h) _ _ c.as_slice.ensures.value within in
-    let thin = ap (λ (l : List Held). map (state_of (map gone_of c.args.recorded.now.frames.now)) l)
+    let thin = ap (λ (l : List StreamState). map (state_of (map gone_of c.args.recorded.now.frames.now)) l)
     c.settle.ensures.held
     ∙ c.in_ok-few.ensures.defined (map gone_of c.args.recorded.now.frames.now)
     (within-frames c.args.bounds.now.rates c.args.recorded.now.frames.now (length c.args.judging.now.marks.items + 1)
     c.as_slice.result.now
     within_slice)
-    ∙ ap (λ (l : List Held). thinned_onto [] (map (state_of (map gone_of c.args.recorded.now.frames.now)) l))
+    ∙ ap (λ (l : List StreamState). thinned_onto [] (map (state_of (map gone_of c.args.recorded.now.frames.now)) l))
     c.as_slice.ensures.value in
     let size = c.unexplained_all.ensures.length ∙ ap (λ (l : List Mark). length l) marks in
     let pushed = c.settle.ensures.marks ∙ c.push_reserved.ensures.items in
@@ -96,10 +97,10 @@ returns-clause-defined c z last j b k at t fault sure none s =
     (sym k.fault ∙ fault) answered
     thin mark unc
     size pushed c.settle.ensures.uncertain
-    (c.settle.ensures.unsure ∙ ap (λ (l : List Held). nat_lt most_states (length l)) (sym c.settle.ensures.held))
+    (c.settle.ensures.unsure ∙ ap (λ (l : List StreamState). nat_lt most_states (length l)) (sym c.settle.ensures.held))
     (more-marks c.args.bounds.now.rates (length c.args.recorded.now.frames.now) (length c.args.judging.now.marks.items)
     c.unexplained_all.new.marks.items c.settle.new.judging.marks.items _ c.settle.new.judging.held.items pushed size
-    (All-same (λ (h : Held). IsWithin c.args.bounds.now.rates (length c.args.recorded.now.frames.now)
+    (All-same (λ (h : StreamState). IsWithin c.args.bounds.now.rates (length c.args.recorded.now.frames.now)
     (length c.args.judging.now.marks.items + 1) h) _ _ c.settle.ensures.held
     (c.in_ok-few.ensures.within c.args.bounds.now.rates (length c.args.recorded.now.frames.now)
     (length c.args.judging.now.marks.items + 1)
@@ -120,13 +121,16 @@ returns-clause-counted c =
 
 pub returns-clause-within : goal.returns-clause-within
 returns-clause-within c l by count r all =
-    All-same (λ (h : Held). IsWithin c.args.bounds.now.rates (length c.args.recorded.now.frames.now) (count + 1) h) _ _
+    All-same (λ (h : StreamState). IsWithin c.args.bounds.now.rates (length c.args.recorded.now.frames.now)
+    (count + 1) h) _ _
     c.settle.ensures.held
     (c.in_ok-few.ensures.within c.args.bounds.now.rates (length c.args.recorded.now.frames.now) (count + 1)
-    (All-same (λ (h : Held). IsWithin c.args.bounds.now.rates (length c.args.recorded.now.frames.now) (count + 1) h) _ _
+    (All-same (λ (h : StreamState). IsWithin c.args.bounds.now.rates (length c.args.recorded.now.frames.now)
+    (count + 1) h) _ _
     c.as_slice.ensures.value
     (c.in_ok-outcome.ensures.within l by count r
-    (All-same (λ (h : Held). IsWithin c.args.bounds.now.rates (length c.args.recorded.now.frames.now) count h) _ _
+    (All-same (λ (h : StreamState). IsWithin c.args.bounds.now.rates (length c.args.recorded.now.frames.now) count h)
+    _ _
     (c.in_ok-held.ensures.items ∙ c.as_slice-states.ensures.value) all))))
 
 pub deviate-requires-clause-lookup : goal.deviate-requires-clause-lookup

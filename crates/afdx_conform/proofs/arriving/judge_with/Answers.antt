@@ -8,7 +8,7 @@ use Rattle.afdx_conform.specs.Limits.{gone_of}
 use Rattle.afdx_conform.specs.Marks.{arrival_of, marked_all, told}
 use Rattle.afdx_conform.specs.States.{State, led_by, states_at}
 use Rattle.afdx_conform.specs.declared.finding.Mark.{Mark}
-use Rattle.afdx_conform.specs.declared.states.Held.{Held}
+use Rattle.afdx_conform.specs.declared.states.StreamState.{StreamState}
 use Rattle.std.specs.Prelude.{nat_lt}
 use Rattle.afdx_conform.proofs.AloneLemmas.{thinned-alone}
 use Rattle.afdx_conform.proofs.ArrivalSteps.{stands-arrival, stands-fault, answered-led, more-marks, one-less}
@@ -34,7 +34,7 @@ returns-in-Some-clause-defined c z last j b k at t sure s =
 
 pub returns-in-Some-led_alone-clause-defined : goal.returns-in-Some-led_alone-clause-defined
 returns-in-Some-led_alone-clause-defined c z last j b k at t sure s =
-    let states = ap (λ (l : List Held). map (state_of (map gone_of c.args.recorded.now.frames.now)) l)
+    let states = ap (λ (l : List StreamState). map (state_of (map gone_of c.args.recorded.now.frames.now)) l)
     c.as_slice-states.ensures.value ∙ s.states in
     let led = sym (c.in-Some-led_alone.ensures.defined z last b (k.charged c.in-None.is) t
     ∙ ap (λ (l : List State). (led_by
@@ -57,10 +57,10 @@ returns-in-Some-led_alone-clause-defined c z last j b k at t sure s =
     with_states (map (state_of (map gone_of c.args.recorded.now.frames.now)) (c.in-Some-led_alone.state
     ∷ [])) q)
     (sym nothing) in
-    let within = All-same (λ (h : Held). IsWithin c.args.bounds.now.rates (length c.args.recorded.now.frames.now)
+    let within = All-same (λ (h : StreamState). IsWithin c.args.bounds.now.rates (length c.args.recorded.now.frames.now)
     (length c.args.judging.now.marks.items + 1) h) _ _ c.in_ok-go_on_alone.ensures.held
     (c.in-Some-led_alone.ensures.within (link z) z.by (length c.args.judging.now.marks.items) b.rates
-    (All-same (λ (h : Held). IsWithin c.args.bounds.now.rates (length c.args.recorded.now.frames.now)
+    (All-same (λ (h : StreamState). IsWithin c.args.bounds.now.rates (length c.args.recorded.now.frames.now)
     (length c.args.judging.now.marks.items) h) _ _
     c.as_slice-states.ensures.value s.within)) in
     stands-arrival c.args.bounds.now.rates c.args.recorded.now.frames.now c.args.recorded.now.arrivals.now z
@@ -71,7 +71,7 @@ returns-in-Some-led_alone-clause-defined c z last j b k at t sure s =
     c.new-in-Some-led_alone.result.items c.test_arrival-tested.result.reason c.test_arrival-tested.result.is_uncertain
     sure
     (sym k.fault ∙ c.in-None.is) answered
-    (ap (λ (l : List Held). map (state_of (map gone_of c.args.recorded.now.frames.now)) l)
+    (ap (λ (l : List StreamState). map (state_of (map gone_of c.args.recorded.now.frames.now)) l)
     c.in_ok-go_on_alone.ensures.held
     ∙ thinned-alone (map gone_of c.args.recorded.now.frames.now) c.in-Some-led_alone.state)
     (c.test_arrival-tested.ensures.reason z (map gone_of c.args.recorded.now.frames.now) last b.rates
@@ -82,7 +82,7 @@ returns-in-Some-led_alone-clause-defined c z last j b k at t sure s =
     ∙ ap (λ (l : List State). is_uncertain z last (arrival_of c.args.coming.now.arrived.now) l) states)
     refl c.in_ok-go_on_alone.ensures.marks c.in_ok-go_on_alone.ensures.uncertain
     (c.in_ok-go_on_alone.ensures.unsure
-    ∙ ap (λ (l : List Held). nat_lt most_states (length l)) (sym c.in_ok-go_on_alone.ensures.held))
+    ∙ ap (λ (l : List StreamState). nat_lt most_states (length l)) (sym c.in_ok-go_on_alone.ensures.held))
     (more-marks c.args.bounds.now.rates (length c.args.recorded.now.frames.now) (length c.args.judging.now.marks.items)
     c.args.judging.now.marks.items
     c.go_on_alone.new.judging.marks.items _ c.go_on_alone.new.judging.held.items c.in_ok-go_on_alone.ensures.marks
@@ -90,15 +90,17 @@ returns-in-Some-led_alone-clause-defined c z last j b k at t sure s =
 
 pub returns-in-Some-led_alone-clause-within : goal.returns-in-Some-led_alone-clause-within
 returns-in-Some-led_alone-clause-within c l by count r all =
-    All-same (λ (h : Held). IsWithin c.args.bounds.now.rates (length c.args.recorded.now.frames.now) (count + 1) h) _ _
+    All-same (λ (h : StreamState). IsWithin c.args.bounds.now.rates (length c.args.recorded.now.frames.now)
+    (count + 1) h) _ _
     c.in_ok-go_on_alone.ensures.held
     (c.in-Some-led_alone.ensures.within l by count r
-    (All-same (λ (h : Held). IsWithin c.args.bounds.now.rates (length c.args.recorded.now.frames.now) count h) _ _
+    (All-same (λ (h : StreamState). IsWithin c.args.bounds.now.rates (length c.args.recorded.now.frames.now) count h)
+    _ _
     c.as_slice-states.ensures.value all))
 
 pub returns-then-has_any-clause-defined : goal.returns-then-has_any-clause-defined
 returns-then-has_any-clause-defined c z last j b k at t sure s =
-    let states = ap (λ (l : List Held). map (state_of (map gone_of c.args.recorded.now.frames.now)) l)
+    let states = ap (λ (l : List StreamState). map (state_of (map gone_of c.args.recorded.now.frames.now)) l)
     c.as_slice-states.ensures.value ∙ s.states in
     let led = sym (c.in_ok-led.ensures.defined z last b (k.charged c.in-None.is) t
     ∙ ap (λ (l : List State). (led_by (λ s.
@@ -120,17 +122,17 @@ returns-then-has_any-clause-defined c z last j b k at t sure s =
     ∙ ap (λ (q : Judged).
     with_states (map (state_of (map gone_of c.args.recorded.now.frames.now)) c.in_ok-led.led.items) q)
     (sym nothing) in
-    let within = All-same (λ (h : Held). IsWithin c.args.bounds.now.rates (length c.args.recorded.now.frames.now)
+    let within = All-same (λ (h : StreamState). IsWithin c.args.bounds.now.rates (length c.args.recorded.now.frames.now)
     (length c.args.judging.now.marks.items + 1) h) _ _ c.as_slice-ahead.ensures.value
     (c.in_ok-led.ensures.within (link z) z.by (length c.args.judging.now.marks.items) b.rates
-    (All-same (λ (h : Held). IsWithin c.args.bounds.now.rates (length c.args.recorded.now.frames.now)
+    (All-same (λ (h : StreamState). IsWithin c.args.bounds.now.rates (length c.args.recorded.now.frames.now)
     (length c.args.judging.now.marks.items) h) _ _
     c.as_slice-states.ensures.value s.within)) in
     let thin = c.in_ok-go_on.ensures.thinned (map gone_of c.args.recorded.now.frames.now)
     (within-frames c.args.bounds.now.rates c.args.recorded.now.frames.now (length c.args.judging.now.marks.items + 1)
     c.as_slice-ahead.result.now
     within)
-    ∙ ap (λ (l : List Held). thinned_onto [] (map (state_of (map gone_of c.args.recorded.now.frames.now)) l))
+    ∙ ap (λ (l : List StreamState). thinned_onto [] (map (state_of (map gone_of c.args.recorded.now.frames.now)) l))
     c.as_slice-ahead.ensures.value in
     stands-arrival c.args.bounds.now.rates c.args.recorded.now.frames.now c.args.recorded.now.arrivals.now z
     (map arrival_of (drop (length
@@ -155,12 +157,12 @@ pub returns-clause-defined : goal.returns-clause-defined
 returns-clause-defined c z last j b k at t sure s =
     let gone = sym c.as_slice-ahead.ensures.value ∙ c.has_any.ensures.none c.if-has_any.false in
     let none =
-    ap (λ (l : List Held).
+    ap (λ (l : List StreamState).
     (led_by (λ s. states_at z (arrival_of c.args.coming.now.arrived.now) (levels_then z s.levels last
     (arrival_of c.args.coming.now.arrived.now)) s) (map (state_of (map gone_of c.args.recorded.now.frames.now)) l)))
     (sym c.as_slice-states.ensures.value)
     ∙ sym (c.in_ok-led.ensures.defined z last b (k.charged c.in-None.is) t)
-    ∙ ap (λ (l : List Held). map (state_of (map gone_of
+    ∙ ap (λ (l : List StreamState). map (state_of (map gone_of
     c.args.recorded.now.frames.now)) l) gone in
     c.go_wrong.ensures.defined z last j b k at t c.in-None.is sure none s
 
@@ -188,10 +190,12 @@ returns-then-has_any-clause-counted c =
 pub returns-then-has_any-clause-within : goal.returns-then-has_any-clause-within
 returns-then-has_any-clause-within c l by count r all =
     c.in_ok-go_on.ensures.within c.args.bounds.now.rates (length c.args.recorded.now.frames.now) (count + 1)
-    (All-same (λ (h : Held). IsWithin c.args.bounds.now.rates (length c.args.recorded.now.frames.now) (count + 1) h) _ _
+    (All-same (λ (h : StreamState). IsWithin c.args.bounds.now.rates (length c.args.recorded.now.frames.now)
+    (count + 1) h) _ _
     c.as_slice-ahead.ensures.value
     (c.in_ok-led.ensures.within l by count r
-    (All-same (λ (h : Held). IsWithin c.args.bounds.now.rates (length c.args.recorded.now.frames.now) count h) _ _
+    (All-same (λ (h : StreamState). IsWithin c.args.bounds.now.rates (length c.args.recorded.now.frames.now) count h)
+    _ _
     c.as_slice-states.ensures.value all)))
 
 pub returns-clause-counted : goal.returns-clause-counted

@@ -6,10 +6,10 @@ use Rattle.afdx_conform.specs.HeldStates.{IsNext, IsCaseWithin}
 use Rattle.afdx_conform.specs.Limits.{gone_of}
 use Rattle.afdx_conform.specs.Marks.{arrival_of}
 use Rattle.afdx_conform.specs.declared.states.Case.{Case}
-use Rattle.afdx_conform.specs.declared.states.Held.{Held}
+use Rattle.afdx_conform.specs.declared.states.StreamState.{StreamState}
 use Rattle.afdx_conform.proofs.cases.cases_of.Goals as goal
 
-abbrev no-held : Held
+abbrev no-held : StreamState
 no-held = record { passed = 0; levels = record { lo = 0; hi = 0 }; waiting = 0 }
 
 pub loop-state-init : goal.loop-state-init
@@ -26,11 +26,11 @@ loop-state-init c = (
 pub loop-state-preserved : goal.loop-state-preserved
 loop-state-preserved c =
     let i : ℕ = c.loop-state.state-index in
-    let held : Held = get_or c.args.held.now c.loop-state.state-index no-held in
+    let held : StreamState = get_or c.args.held.now c.loop-state.state-index no-held in
     let case : Case = record { held = held; next = c.next-next.result } in (
       ap (λ (l : List Case). map (λ (d : Case). d.held) l) c.in_ok-push.ensures.items
           ∙ map-append (λ (d : Case). d.held) c.loop-state.out.items (case ∷ [])
-          ∙ ap (λ (l : List Held). l ++ (held ∷ [])) c.loop-state.invariant.0
+          ∙ ap (λ (l : List StreamState). l ++ (held ∷ [])) c.loop-state.invariant.0
           ∙ sym (take_more c.args.held.now c.loop-state.state-index no-held c.loop-state-test.true),
       λ z a opens. subst
           (λ (l : List Case). All (λ d. IsNext z (arrival_of c.args.coming.now.arrived.now)

@@ -1,5 +1,5 @@
 use Rattle.std.proofs.Common.{rules, ◌≡◌, ◌<◌, get_or, subst, arith}
-use Rattle.afdx_conform.specs.declared.limits.Frame.{Frame}
+use Rattle.afdx_conform.specs.declared.limits.LeftFrame.{LeftFrame}
 use Rattle.afdx_conform.proofs.ClosedLemmas.{closed-more, same-frame, not-later}
 use Rattle.afdx_conform.proofs.closing.count_closed.Goals as goal
 
@@ -22,7 +22,7 @@ pub returns-then-is_later-clause-behind : goal.returns-then-is_later-clause-behi
 returns-then-is_later-clause-behind c f lt at =
     let is : c.index-frames-place.result ≡ get_or c.args.frames.now c.loop-place.place c.index-frames-place.result =
     search rules in
-    subst (λ (g : Frame). c.args.time < g.time) (same-frame c.args.frames.now c.loop-place.place f
+    subst (λ (g : LeftFrame). c.args.time < g.time) (same-frame c.args.frames.now c.loop-place.place f
     c.index-frames-place.result lt at is)
     (c.is_later.ensures.0 c.if-is_later.true)
 

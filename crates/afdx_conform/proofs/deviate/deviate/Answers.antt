@@ -10,7 +10,7 @@ use Rattle.afdx_conform.specs.Limits.{gone_of}
 use Rattle.afdx_conform.specs.Marks.{arrival_of}
 use Rattle.afdx_conform.specs.States.{led_by, states_at}
 use Rattle.afdx_conform.specs.declared.finding.Finding.TheVariants.{Stopped}
-use Rattle.afdx_conform.specs.declared.states.Held.{Held}
+use Rattle.afdx_conform.specs.declared.states.StreamState.{StreamState}
 use Rattle.afdx_conform.proofs.DeviateLemmas.{have-to-pass, past-within, small-all, gone-past}
 use Rattle.afdx_conform.proofs.DeviateSteps.{at-start, at-same, at-end, at-stop, at-led, at-next, front-within, inside-on, last-is, passed-next, stopped-whole, took-whole, if-ok-two, within-frames, near-all, levels-all, within-more, front-start, gone-here, some-held, past-passes}
 use Rattle.afdx_conform.proofs.LeadLemmas.{lead-past}
@@ -49,7 +49,7 @@ loop-front-preserved c = record {
         (length c.args.recorded.now.frames.now) c.loop-front.invariant.bounds.0 c.loop-front.front
         (c.loop-front.front + 1) c.loop-front.held.items c.in_ok-lead.lead.items (let lt = c.loop-front-test.true in
         omega (arith, lt))
-        (c.in_ok-lead.ensures ∙ ap (λ (l : List Held). map (λ h. past (c.loop-front.front + 1) h)
+        (c.in_ok-lead.ensures ∙ ap (λ (l : List StreamState). map (λ h. past (c.loop-front.front + 1) h)
         (filter (λ h. nat_eq h.passed c.loop-front.front) l)) c.as_slice-before.ensures.value)
         c.loop-front.invariant.bounds.2,
   );
@@ -61,7 +61,7 @@ loop-front-preserved c = record {
       past-within c.args.bounds.now.rates (length c.args.recorded.now.frames.now) count c.loop-front.front
       (c.loop-front.front + 1) c.loop-front.held.items c.in_ok-lead.lead.items (let lt = c.loop-front-test.true in
       omega (arith, lt))
-      (c.in_ok-lead.ensures ∙ ap (λ (l : List Held). map (λ h. past (c.loop-front.front + 1) h)
+      (c.in_ok-lead.ensures ∙ ap (λ (l : List StreamState). map (λ h. past (c.loop-front.front + 1) h)
       (filter (λ h. nat_eq h.passed c.loop-front.front) l)) c.as_slice-before.ensures.value)
       (c.loop-front.invariant.within link by count r all);
   defined = λ z last j b k t none.
@@ -80,13 +80,14 @@ loop-front-preserved c = record {
       c.loop-front.invariant.bounds.2)
       (let lt = c.loop-front-test.true in omega (arith, lt, size))
       at.at_front
-      (c.in_ok-lead.ensures ∙ ap (λ (l : List Held). map (λ h. past (c.loop-front.front + 1) h)
+      (c.in_ok-lead.ensures ∙ ap (λ (l : List StreamState). map (λ h. past (c.loop-front.front + 1) h)
       (filter (λ h. nat_eq h.passed c.loop-front.front) l)) c.as_slice-before.ensures.value) in
       let gone : c.in_ok-led.led.items ≡ [] =
       sym c.as_slice.ensures.value ∙ c.has_any.ensures.none c.if-has_any.false in
-      let led = sym (ap (λ (l : List Held). map (state_of (map gone_of c.args.recorded.now.frames.now)) l) (sym gone)
+      let led = sym (ap (λ (l : List StreamState). map (state_of (map gone_of c.args.recorded.now.frames.now)) l)
+      (sym gone)
       ∙ c.in_ok-led.ensures.defined z last b k t
-      ∙ ap (λ (l : List Held). led_by (λ s. states_at z (arrival_of c.args.coming.now.arrived.now)
+      ∙ ap (λ (l : List StreamState). led_by (λ s. states_at z (arrival_of c.args.coming.now.arrived.now)
       (levels_then z s.levels last (arrival_of c.args.coming.now.arrived.now)) s)
       (map (state_of (map gone_of c.args.recorded.now.frames.now))
       l))
@@ -124,10 +125,10 @@ returns-then-has_any-clause-defined c z last j b k t none =
     c.loop-front.invariant.bounds.2)
     (let lt = c.loop-front-test.true in omega (arith, lt, size))
     at.at_front
-    (c.in_ok-lead.ensures ∙ ap (λ (l : List Held). map (λ h. past (c.loop-front.front + 1) h)
+    (c.in_ok-lead.ensures ∙ ap (λ (l : List StreamState). map (λ h. past (c.loop-front.front + 1) h)
     (filter (λ h. nat_eq h.passed c.loop-front.front) l)) c.as_slice-before.ensures.value) in
     let led = sym (c.in_ok-led.ensures.defined z last b k t
-    ∙ ap (λ (l : List Held). led_by (λ s. states_at z (arrival_of c.args.coming.now.arrived.now)
+    ∙ ap (λ (l : List StreamState). led_by (λ s. states_at z (arrival_of c.args.coming.now.arrived.now)
     (levels_then z s.levels last (arrival_of c.args.coming.now.arrived.now)) s)
     (map (state_of (map gone_of c.args.recorded.now.frames.now)) l))
     c.as_slice-asked.ensures.value) in
@@ -197,7 +198,8 @@ returns-in-Took-clause-defined c z last j b k t none =
     let next = gone-here c.args.recorded.now.frames.now c.loop-front.front c.index-frames-front.result
     c.loop-front-test.true is in
     let size = length-map c.args.recorded.now.frames.now gone_of in
-    let lead_is = c.in_ok-ahead-in-Took.ensures ∙ ap (λ (l : List Held). map (λ h. past (c.loop-front.front + 1) h)
+    let lead_is = c.in_ok-ahead-in-Took.ensures ∙
+    ap (λ (l : List StreamState). map (λ h. past (c.loop-front.front + 1) h)
     (filter (λ h. nat_eq h.passed c.loop-front.front) l)) c.as_slice-leading.ensures.value in
     let moved = lead-past
     (map gone_of c.args.recorded.now.frames.now) c.loop-front.held.items c.in_ok-ahead-in-Took.ahead.items
@@ -248,7 +250,7 @@ returns-in-Took-clause-within c link by count r all =
     (c.loop-front.front + 1) c.loop-front.held.items c.in_ok-ahead-in-Took.ahead.items
     (let lt = c.loop-front-test.true in omega
     (arith, lt))
-    (c.in_ok-ahead-in-Took.ensures ∙ ap (λ (l : List Held). map (λ h. past (c.loop-front.front + 1) h)
+    (c.in_ok-ahead-in-Took.ensures ∙ ap (λ (l : List StreamState). map (λ h. past (c.loop-front.front + 1) h)
     (filter (λ h. nat_eq h.passed c.loop-front.front) l)) c.as_slice-leading.ensures.value)
     (c.loop-front.invariant.within link by count r all)))
 
@@ -297,13 +299,13 @@ accept_with-requires-in-Took c =
     (c.loop-front.front + 1) c.loop-front.held.items c.in_ok-ahead-in-Took.ahead.items
     (let lt = c.loop-front-test.true in omega
     (arith, lt))
-    (c.in_ok-ahead-in-Took.ensures ∙ ap (λ (l : List Held). map (λ h. past (c.loop-front.front + 1) h)
+    (c.in_ok-ahead-in-Took.ensures ∙ ap (λ (l : List StreamState). map (λ h. past (c.loop-front.front + 1) h)
     (filter (λ h. nat_eq h.passed c.loop-front.front) l)) c.as_slice-leading.ensures.value)
     c.loop-front.invariant.bounds.2)
 
 pub led_from-requires : goal.led_from-requires
 led_from-requires c =
-    All-same (λ (h : Held). IsSmall c.args.bounds.now.rates h) _ _ c.as_slice-asked.ensures.value
+    All-same (λ (h : StreamState). IsSmall c.args.bounds.now.rates h) _ _ c.as_slice-asked.ensures.value
     (small-all c.args.bounds.now.rates (length c.args.recorded.now.frames.now) c.loop-front.invariant.bounds.0
     c.in_ok-lead.lead.items
     c.requires.few c.loop-front.invariant.bounds.1
@@ -311,19 +313,20 @@ led_from-requires c =
     (length c.args.recorded.now.frames.now) c.loop-front.invariant.bounds.0 c.loop-front.front
     (c.loop-front.front + 1) c.loop-front.held.items c.in_ok-lead.lead.items (let lt = c.loop-front-test.true in
     omega (arith, lt))
-    (c.in_ok-lead.ensures ∙ ap (λ (l : List Held). map (λ h. past (c.loop-front.front + 1) h)
+    (c.in_ok-lead.ensures ∙ ap (λ (l : List StreamState). map (λ h. past (c.loop-front.front + 1) h)
     (filter (λ h. nat_eq h.passed c.loop-front.front) l)) c.as_slice-before.ensures.value)
     c.loop-front.invariant.bounds.2))
 
 pub returns-then-has_any-clause-within : goal.returns-then-has_any-clause-within
 returns-then-has_any-clause-within c link by count r all =
     c.in_ok-led.ensures.within link by count r
-    (All-same (λ (h : Held). IsWithin c.args.bounds.now.rates (length c.args.recorded.now.frames.now) count h) _ _
+    (All-same (λ (h : StreamState). IsWithin c.args.bounds.now.rates (length c.args.recorded.now.frames.now) count h)
+    _ _
     c.as_slice-asked.ensures.value
     (past-within c.args.bounds.now.rates (length c.args.recorded.now.frames.now) count c.loop-front.front
     (c.loop-front.front + 1) c.loop-front.held.items c.in_ok-lead.lead.items (let lt = c.loop-front-test.true in
     omega (arith, lt))
-    (c.in_ok-lead.ensures ∙ ap (λ (l : List Held). map (λ h. past (c.loop-front.front + 1) h)
+    (c.in_ok-lead.ensures ∙ ap (λ (l : List StreamState). map (λ h. past (c.loop-front.front + 1) h)
     (filter (λ h. nat_eq h.passed c.loop-front.front) l)) c.as_slice-before.ensures.value)
     (c.loop-front.invariant.within link by count r all)))
 

@@ -5,7 +5,7 @@ use Rattle.afdx_conform.specs.HeldStates.{IsWithin}
 use Rattle.afdx_conform.specs.Levels.{Levels}
 use Rattle.afdx_conform.specs.Limits.{gone_of}
 use Rattle.afdx_conform.specs.States.{first_states}
-use Rattle.afdx_conform.specs.declared.states.Held.{Held}
+use Rattle.afdx_conform.specs.declared.states.StreamState.{StreamState}
 use Rattle.afdx_conform.proofs.DeviateLemmas.{gone-past}
 use Rattle.afdx_conform.proofs.DeviateSteps.{gone-here}
 use Rattle.afdx_conform.proofs.FirstLemmas.{first-one, first-end, first-stop, first-more}
@@ -16,10 +16,10 @@ loop-place-init c =
     let one = c.in_ok-out.ensures.items in
     record {
       defined = λ z b by. first-one z c.first_levels-levels.result (map gone_of c.args.frames.now) _ one;
-      within = All-same (λ (h : Held). IsWithin c.args.bounds.now.rates (length c.args.frames.now) 0 h) _ _ one
-          (All-push (λ (h : Held). IsWithin c.args.bounds.now.rates (length c.args.frames.now) 0 h) []
+      within = All-same (λ (h : StreamState). IsWithin c.args.bounds.now.rates (length c.args.frames.now) 0 h) _ _ one
+          (All-push (λ (h : StreamState). IsWithin c.args.bounds.now.rates (length c.args.frames.now) 0 h) []
           (record { passed = 0; levels = c.first_levels-levels.result; waiting = 0 })
-          (All-nil (λ (h : Held). IsWithin c.args.bounds.now.rates (length c.args.frames.now) 0 h))
+          (All-nil (λ (h : StreamState). IsWithin c.args.bounds.now.rates (length c.args.frames.now) 0 h))
           (record {
             passed = omega arith;
             waiting = omega arith;
@@ -38,9 +38,10 @@ loop-place-preserved c = record {
       (gone_of c.index-frames-place.result) (c.loop-place.invariant.defined z b by)
       (gone-here c.args.frames.now c.loop-place.place c.index-frames-place.result c.loop-place-test.true is) _
       (sym (c.is_begun.ensures z b.limits by) ∙ c.if-is_begun.true) c.in_ok-push.ensures.items;
-  within = All-same (λ (h : Held). IsWithin c.args.bounds.now.rates (length c.args.frames.now) 0 h) _ _
+  within = All-same (λ (h : StreamState). IsWithin c.args.bounds.now.rates (length c.args.frames.now) 0 h) _ _
       c.in_ok-push.ensures.items
-      (All-push (λ (h : Held). IsWithin c.args.bounds.now.rates (length c.args.frames.now) 0 h) c.loop-place.out.items _
+      (All-push (λ (h : StreamState). IsWithin c.args.bounds.now.rates (length c.args.frames.now) 0 h)
+      c.loop-place.out.items _
       c.loop-place.invariant.within
       (record {
         passed = (let lt = c.loop-place-test.true in omega (arith, lt));

@@ -6,7 +6,7 @@ use Rattle.afdx_conform.specs.HeldStates.{state_of}
 use Rattle.afdx_conform.specs.Leeway.{reach}
 use Rattle.afdx_conform.specs.Limits.{gone_of}
 use Rattle.afdx_conform.specs.Marks.{marked_all, told}
-use Rattle.afdx_conform.specs.declared.states.Held.{Held}
+use Rattle.afdx_conform.specs.declared.states.StreamState.{StreamState}
 use Rattle.afdx_conform.proofs.ClosingLemmas.{close-kept}
 use Rattle.afdx_conform.proofs.NamingLemmas.{told-none}
 use Rattle.afdx_conform.proofs.SkipLemmas.{stands-after}
@@ -14,7 +14,8 @@ use Rattle.afdx_conform.proofs.judging.close_with.Goals as goal
 
 pub returns-then-is_one_passed-clause-defined : goal.returns-then-is_one_passed-clause-defined
 returns-then-is_one_passed-clause-defined c z time j b closed sure s =
-    let any = ap (λ (l : List Held). list_any (λ h. nat_le c.args.closed h.passed) l) (sym c.as_slice.ensures.value)
+    let any = ap (λ (l : List StreamState). list_any (λ h. nat_le c.args.closed h.passed) l)
+    (sym c.as_slice.ensures.value)
     ∙ sym c.is_one_passed.ensures ∙ c.if-is_one_passed.true in
     let nothing = ap (λ (l : List Finding). told (time + reach z.by) l
     (marked_all c.args.recorded.now.arrivals.now c.args.judging.now.marks.items) j) c.new.ensures.items
@@ -39,7 +40,7 @@ returns-then-is_one_passed-clause-defined c z time j b closed sure s =
 pub returns-clause-defined : goal.returns-clause-defined
 returns-clause-defined c z time j b closed sure s =
     c.skip.ensures.defined z time j b closed
-    (ap (λ (l : List Held). list_any (λ h. nat_le c.args.closed h.passed) l) (sym c.as_slice.ensures.value)
+    (ap (λ (l : List StreamState). list_any (λ h. nat_le c.args.closed h.passed) l) (sym c.as_slice.ensures.value)
     ∙ sym c.is_one_passed.ensures ∙ c.if-is_one_passed.false) sure s
 
 pub returns-then-is_one_passed-clause-marks : goal.returns-then-is_one_passed-clause-marks

@@ -4,7 +4,7 @@ use Rattle.std.specs.List.{filter}
 use Rattle.afdx_conform.specs.Findings.{closed_to}
 use Rattle.afdx_conform.specs.HeldStates.{past}
 use Rattle.afdx_conform.specs.Leeway.{reach}
-use Rattle.afdx_conform.specs.declared.states.Held.{Held}
+use Rattle.afdx_conform.specs.declared.states.StreamState.{StreamState}
 use Rattle.afdx_conform.proofs.DeviateLemmas.{past-within}
 use Rattle.afdx_conform.proofs.DeviateSteps.{front-start, within-frames}
 use Rattle.afdx_conform.proofs.PlacesLemmas.{each-slice}
@@ -16,7 +16,7 @@ returns-clause-defined c z time j b closed none sure s =
     let inside = within-frames c.args.bounds.now.rates c.args.recorded.now.frames.now
     (length c.args.judging.now.marks.items)
     c.args.judging.now.held.items s.within in
-    let lead_is = c.in_ok-lead.ensures ∙ ap (λ (l : List Held). map (λ h. past c.args.closed h)
+    let lead_is = c.in_ok-lead.ensures ∙ ap (λ (l : List StreamState). map (λ h. past c.args.closed h)
     (filter (λ h. nat_eq h.passed c.min-front.result) l)) c.as_slice.ensures.value in
     let whole = skip-whole z time c.args.closed c.front_of-foremost.result c.min-front.result
     c.args.recorded.now.frames.now
@@ -28,8 +28,8 @@ returns-clause-defined c z time j b closed none sure s =
     c.front_of-foremost.result
     (length c.args.recorded.now.frames.now) c.as_slice-held.ensures.value inside c.front_of-foremost.ensures.greatest
     c.front_of-foremost.ensures.among refl)
-    (subst (λ (l : List Held). ((l ≡ []) × (c.front_of-foremost.result ≡ length c.args.recorded.now.frames.now))
-    ⊎ ((h : Held) × Contains l h × (h.passed ≡ c.front_of-foremost.result))) c.as_slice-held.ensures.value
+    (subst (λ (l : List StreamState). ((l ≡ []) × (c.front_of-foremost.result ≡ length c.args.recorded.now.frames.now))
+    ⊎ ((h : StreamState) × Contains l h × (h.passed ≡ c.front_of-foremost.result))) c.as_slice-held.ensures.value
     c.front_of-foremost.ensures.among)
     c.min-front.ensures lead_is
     (c.unexplained_all.ensures.found z (time + reach z.by) j b.limits (sym s.marks)) in
@@ -48,7 +48,7 @@ pub returns-clause-within : goal.returns-clause-within
 returns-clause-within c count all =
     past-within c.args.bounds.now.rates (length c.args.recorded.now.frames.now) count c.min-front.result
     c.args.closed c.args.judging.now.held.items c.in_ok-lead.lead.items c.requires.closed
-    (c.in_ok-lead.ensures ∙ ap (λ (l : List Held). map (λ h. past c.args.closed h)
+    (c.in_ok-lead.ensures ∙ ap (λ (l : List StreamState). map (λ h. past c.args.closed h)
     (filter (λ h. nat_eq h.passed c.min-front.result) l)) c.as_slice.ensures.value) all
 
 pub returns-clause-marks : goal.returns-clause-marks

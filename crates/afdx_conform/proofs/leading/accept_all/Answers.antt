@@ -8,18 +8,18 @@ use Rattle.afdx_conform.specs.HeldStates.{IsWithin, state_of}
 use Rattle.afdx_conform.specs.Levels.{Levels, later, charged, has_to_pass}
 use Rattle.afdx_conform.specs.Marks.{arrival_of}
 use Rattle.afdx_conform.specs.States.{State, state_with}
-use Rattle.afdx_conform.specs.declared.states.Held.{Held}
+use Rattle.afdx_conform.specs.declared.states.StreamState.{StreamState}
 use Rattle.afdx_conform.proofs.DeviateLemmas.{accepted-more}
 use Rattle.afdx_conform.proofs.leading.accept_all.Goals as goal
 
-abbrev no-held : Held
+abbrev no-held : StreamState
 no-held = record { passed = 0; levels = record { lo = 0; hi = 0 }; waiting = 0 }
 
 pub loop-state-init : goal.loop-state-init
 loop-state-init c = (
-  λ z ys last r j ns near must. ap (λ (l : List Held). map (state_of ys) l) c.new-out.ensures.items,
-  λ link by frames count r all. subst (λ (l : List Held). All (λ h. IsWithin c.args.rates.now frames count h) l)
-      (sym c.new-out.ensures.items) (All-nil (λ (h : Held). IsWithin c.args.rates.now frames count h)),
+  λ z ys last r j ns near must. ap (λ (l : List StreamState). map (state_of ys) l) c.new-out.ensures.items,
+  λ link by frames count r all. subst (λ (l : List StreamState). All (λ h. IsWithin c.args.rates.now frames count h) l)
+      (sym c.new-out.ensures.items) (All-nil (λ (h : StreamState). IsWithin c.args.rates.now frames count h)),
 )
 
 pub loop-state-preserved : goal.loop-state-preserved
@@ -39,7 +39,7 @@ loop-state-preserved c = (
       passes
       ∙ ap (λ (k : ℕ). charged (link z) z.by k c.later-levels.result) j.charge
       ∙ ap (λ (v : Levels). charged (link z) z.by (charge z (arrival_of c.args.arrived.now)) v) moved in
-      ap (λ (l : List Held). map (state_of ys) l) c.in_ok-push.ensures.items
+      ap (λ (l : List StreamState). map (state_of ys) l) c.in_ok-push.ensures.items
       ∙ map-append (state_of ys) c.loop-state.out.items _
       ∙ ap
       (λ (l : List State). l
@@ -52,13 +52,14 @@ loop-state-preserved c = (
       (get_or c.args.held.now c.loop-state.state-index no-held).waiting ∷ [])) taken
       ∙ sym (accepted-more z (arrival_of c.args.arrived.now) last ys (take c.loop-state.state-index c.args.held.now)
       (get_or c.args.held.now c.loop-state.state-index no-held))
-      ∙ ap (λ (l : List Held). as_accepted z (arrival_of c.args.arrived.now)
+      ∙ ap (λ (l : List StreamState). as_accepted z (arrival_of c.args.arrived.now)
       (aged z last (arrival_of c.args.arrived.now) (map (state_of ys) l)))
       (sym (take_more c.args.held.now c.loop-state.state-index no-held c.loop-state-test.true)),
   λ link by frames count r all.
       let w = all c.loop-state.state-index no-held c.loop-state-test.true in
-      subst (λ (l : List Held). All (λ h. IsWithin c.args.rates.now frames count h) l) (sym c.in_ok-push.ensures.items)
-      (All-push (λ (h : Held). IsWithin c.args.rates.now frames count h) c.loop-state.out.items _
+      subst (λ (l : List StreamState). All (λ h. IsWithin c.args.rates.now frames count h) l)
+      (sym c.in_ok-push.ensures.items)
+      (All-push (λ (h : StreamState). IsWithin c.args.rates.now frames count h) c.loop-state.out.items _
       (c.loop-state.invariant.1 link by frames count r all)
       (record {
         passed = w.passed;
@@ -71,7 +72,7 @@ loop-state-preserved c = (
 pub returns-clause-defined : goal.returns-clause-defined
 returns-clause-defined c z ys last r j ns near must =
     c.loop-state.invariant.0 z ys last r j ns near must
-    ∙ ap (λ (l : List Held). as_accepted z (arrival_of c.args.arrived.now)
+    ∙ ap (λ (l : List StreamState). as_accepted z (arrival_of c.args.arrived.now)
     (aged z last (arrival_of c.args.arrived.now) (map (state_of ys) l)))
     (take_all c.loop-state.state-index c.args.held.now (let h = c.loop-state-test.false in omega (arith, h)))
 

@@ -5,11 +5,11 @@ use Rattle.afdx_conform.specs.HeldStates.{IsWithin}
 use Rattle.afdx_conform.specs.Limits.{gone_of}
 use Rattle.afdx_conform.specs.Marks.{arrival_of}
 use Rattle.afdx_conform.specs.States.{states_at}
-use Rattle.afdx_conform.specs.declared.states.Held.{Held}
+use Rattle.afdx_conform.specs.declared.states.StreamState.{StreamState}
 use Rattle.afdx_conform.proofs.AloneLemmas.{some-on, alone, led-alone}
 use Rattle.afdx_conform.proofs.leading.led_alone.Goals as goal
 
-abbrev no-held : Held
+abbrev no-held : StreamState
 no-held = record { passed = 0; levels = record { lo = 0; hi = 0 }; waiting = 0 }
 
 pub returns-in-len1-clause-defined : goal.returns-in-len1-clause-defined
@@ -24,6 +24,6 @@ returns-in-len1-clause-defined c z last b j t =
 pub returns-in-len1-clause-within : goal.returns-in-len1-clause-within
 returns-in-len1-clause-within c link by count r all =
     some-on c.led_one.result
-    (λ h w. All-push (λ (k : Held). IsWithin c.args.bounds.now.rates (length c.args.frames.now) (count + 1) k)
-    [] h (All-nil (λ (k : Held). IsWithin c.args.bounds.now.rates (length c.args.frames.now) (count + 1) k)) w)
+    (λ h w. All-push (λ (k : StreamState). IsWithin c.args.bounds.now.rates (length c.args.frames.now) (count + 1) k)
+    [] h (All-nil (λ (k : StreamState). IsWithin c.args.bounds.now.rates (length c.args.frames.now) (count + 1) k)) w)
     (c.led_one.ensures.within link by count r (all 0 no-held c.in-len1.len_at_least))

@@ -6,7 +6,7 @@ use Rattle.afdx_conform.specs.Limits.{gone_of}
 use Rattle.afdx_conform.specs.Marks.{arrival_of}
 use Rattle.afdx_conform.specs.States.{State, led_by, states_at}
 use Rattle.afdx_conform.specs.declared.states.Case.{Case}
-use Rattle.afdx_conform.specs.declared.states.Held.{Held}
+use Rattle.afdx_conform.specs.declared.states.StreamState.{StreamState}
 use Rattle.afdx_conform.proofs.KeepLemmas.{if-ok-on}
 use Rattle.afdx_conform.proofs.DeviateLemmas.{of-cases, held-states}
 use Rattle.afdx_conform.proofs.leading.led_from.Goals as goal
@@ -24,7 +24,7 @@ returns-clause-defined c z last b j t =
     (levels_then z s.levels last (arrival_of c.args.coming.now.arrived.now)) s) l)
     (ap (λ (l : List Case). map (λ d. state_of (map gone_of c.args.frames.now) d.held) l) c.as_slice.ensures.value
     ∙ held-states (map gone_of c.args.frames.now) c.in_ok-cases.cases.items
-    ∙ ap (λ (l : List Held). map (state_of (map gone_of c.args.frames.now)) l) c.in_ok-cases.ensures.held))
+    ∙ ap (λ (l : List StreamState). map (state_of (map gone_of c.args.frames.now)) l) c.in_ok-cases.ensures.held))
     (c.lead_all.ensures.defined z (arrival_of c.args.coming.now.arrived.now)
     (map gone_of c.args.frames.now) last b.rates
     j.charge t.ns

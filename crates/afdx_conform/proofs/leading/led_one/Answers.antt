@@ -7,7 +7,7 @@ use Rattle.afdx_conform.specs.Levels.{Levels, later}
 use Rattle.afdx_conform.specs.Limits.{gone_of}
 use Rattle.afdx_conform.specs.Marks.{arrival_of}
 use Rattle.afdx_conform.specs.States.{states_at}
-use Rattle.afdx_conform.specs.declared.states.Held.{Held}
+use Rattle.afdx_conform.specs.declared.states.StreamState.{StreamState}
 use Rattle.afdx_conform.proofs.AloneLemmas.{some-on}
 use Rattle.afdx_conform.proofs.leading.led_one.Goals as goal
 
@@ -23,14 +23,16 @@ returns-clause-defined c z last b j t =
     sym
     (ap (λ (v : Levels). states_at z (arrival_of c.args.coming.now.arrived.now) v
     (state_of (map gone_of c.args.frames.now) c.args.state)) levels)
-    ∙ lead ∙ ap (λ (l : List Held). map (state_of (map gone_of c.args.frames.now)) l) e) c.only.ensures
+    ∙ lead ∙ ap (λ (l : List StreamState). map (state_of (map gone_of c.args.frames.now)) l) e) c.only.ensures
 
 pub returns-clause-within : goal.returns-clause-within
 returns-clause-within c link by count r w =
     let all = c.lead-accepted.ensures.within (length c.args.frames.now) count w.passed w.waiting
     (c.later-levels.ensures.near link by r w.near) c.next-next.ensures.left in
-    some-on c.only.result (λ h e. All-head (λ (k : Held). IsWithin c.args.bounds.now.rates (length c.args.frames.now)
+    some-on c.only.result
+    (λ h e. All-head (λ (k : StreamState). IsWithin c.args.bounds.now.rates (length c.args.frames.now)
     (count + 1) k) h []
-    (subst (λ (l : List Held). All (λ k. IsWithin c.args.bounds.now.rates (length c.args.frames.now) (count + 1) k) l)
+    (subst (λ (l : List StreamState). All
+    (λ k. IsWithin c.args.bounds.now.rates (length c.args.frames.now) (count + 1) k) l)
     e all))
     c.only.ensures

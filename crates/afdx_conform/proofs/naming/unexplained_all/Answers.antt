@@ -9,7 +9,7 @@ use Rattle.afdx_conform.specs.Streams.{Gone}
 use Rattle.afdx_conform.specs.declared.finding.Mark.{Mark}
 use Rattle.afdx_conform.specs.declared.gaps.Wanted.TheVariants.{ToName, Accepted}
 use Rattle.afdx_conform.specs.declared.known_bytes.KnownBytes.{KnownBytes}
-use Rattle.afdx_conform.specs.declared.limits.Frame.{Frame}
+use Rattle.afdx_conform.specs.declared.limits.LeftFrame.{LeftFrame}
 use Rattle.afdx_conform.proofs.GapLemmas.{known-still, settled-stays}
 use Rattle.afdx_conform.proofs.NamingLemmas.{told-none, told-unexplained, all-more, all-none}
 use Rattle.afdx_conform.proofs.naming.unexplained_all.Goals as goal
@@ -58,9 +58,9 @@ loop-frame-preserved c =
           ∙ sym (all-more z time (map gone_of (take c.loop-frame.frame-index c.args.recorded.now.frames.now))
           (gone_of c.frame-item.result) j)
           ∙ ap (λ (l : List Gone). unexplained_all z time l j)
-          (ap (λ (f : Frame). map gone_of (take c.loop-frame.frame-index c.args.recorded.now.frames.now)
+          (ap (λ (f : LeftFrame). map gone_of (take c.loop-frame.frame-index c.args.recorded.now.frames.now)
           ++ (gone_of f ∷ [])) is
-          ∙ sym (ap (λ (l : List Frame). map gone_of l)
+          ∙ sym (ap (λ (l : List LeftFrame). map gone_of l)
           (take_more c.args.recorded.now.frames.now c.loop-frame.frame-index
           c.frame-item.result
           c.loop-frame-test.true)
@@ -81,7 +81,7 @@ loop-frame-preserved c =
 pub returns-clause-found : goal.returns-clause-found
 returns-clause-found c z time j a e =
     c.loop-frame.invariant.same z time j a e
-    ∙ ap (λ (l : List Frame). unexplained_all z time (map gone_of l) j)
+    ∙ ap (λ (l : List LeftFrame). unexplained_all z time (map gone_of l) j)
     (take_all c.loop-frame.frame-index c.args.recorded.now.frames.now
     (let h = c.loop-frame-test.false in omega (arith, h)))
 

@@ -7,7 +7,7 @@ use Rattle.afdx_conform.specs.Explanations.{link, levels_then}
 use Rattle.afdx_conform.specs.HeldStates.{state_of, IsWithin}
 use Rattle.afdx_conform.specs.States.{State, led_by, states_at}
 use Rattle.afdx_conform.specs.declared.states.Case.{Case}
-use Rattle.afdx_conform.specs.declared.states.Held.{Held}
+use Rattle.afdx_conform.specs.declared.states.StreamState.{StreamState}
 use Rattle.afdx_conform.specs.Levels.{Levels, later}
 use Rattle.afdx_conform.specs.declared.states.NextFrame.TheVariants.{Fits}
 use Rattle.afdx_conform.proofs.HeldLemmas.{one-more, pushed, two-pushed}
@@ -16,9 +16,10 @@ use Rattle.afdx_conform.proofs.states.lead_all.Goals as goal
 pub loop-case-init : goal.loop-case-init
 unfolding led_by
 loop-case-init c = (
-  λ z x ys last r e g all. ap (λ (l : List Held). map (state_of ys) l) c.new-out.ensures.items,
-  λ link by frames count r all. subst (λ (l : List Held). All (λ h. IsWithin c.args.rates.now frames (count + 1) h) l)
-      (sym c.new-out.ensures.items) (All-nil (λ (h : Held). IsWithin c.args.rates.now frames (count + 1) h)),
+  λ z x ys last r e g all. ap (λ (l : List StreamState). map (state_of ys) l) c.new-out.ensures.items,
+  λ link by frames count r all. subst
+      (λ (l : List StreamState). All (λ h. IsWithin c.args.rates.now frames (count + 1) h) l)
+      (sym c.new-out.ensures.items) (All-nil (λ (h : StreamState). IsWithin c.args.rates.now frames (count + 1) h)),
 )
 
 pub returns-clause-defined : goal.returns-clause-defined
@@ -56,11 +57,11 @@ loop-case-preserved c = (
   λ link by frames count r all.
       let case = all c.loop-case.case-index no-case c.loop-case-test.true in
       let near = c.later-levels.ensures.near link by r case.held.near in
-      subst (λ (l : List Held). All (λ h. IsWithin c.args.rates.now frames (count + 1) h) l)
+      subst (λ (l : List StreamState). All (λ h. IsWithin c.args.rates.now frames (count + 1) h) l)
       (sym (two-pushed c.loop-case.out.items c.push_some.new.out.items c.push_some-in-loop-case.new.out.items
       (option_to_list c.lead-accepted.result.0) (option_to_list c.lead-accepted.result.1)
       c.in_ok-push_some.ensures c.in_ok-push_some-2.ensures))
-      (All-append (λ (h : Held). IsWithin c.args.rates.now frames (count + 1) h) c.loop-case.out.items _
+      (All-append (λ (h : StreamState). IsWithin c.args.rates.now frames (count + 1) h) c.loop-case.out.items _
       (c.loop-case.invariant.1 link by frames count r all)
       (c.lead-accepted.ensures.within frames count case.held.passed case.held.waiting near case.left)),
 )

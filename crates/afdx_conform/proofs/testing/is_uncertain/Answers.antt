@@ -1,11 +1,11 @@
 use Rattle.std.proofs.Common.{◌≤◌, length, true, false, sym, ◌∙◌, arith}
 use Rattle.afdx_conform.specs.Marks.{arrival_of}
 use Rattle.afdx_conform.specs.Testing.{goes_either_way}
-use Rattle.afdx_conform.specs.declared.states.Held.{Held}
+use Rattle.afdx_conform.specs.declared.states.StreamState.{StreamState}
 use Rattle.afdx_conform.proofs.ArrivalLemmas.{any-held, any-held-end}
 use Rattle.afdx_conform.proofs.testing.is_uncertain.Goals as goal
 
-abbrev no-held : Held
+abbrev no-held : StreamState
 no-held = record { passed = 0; levels = record { lo = 0; hi = 0 }; waiting = 0 }
 
 pub returns-then-goes_both_ways : goal.returns-then-goes_both_ways

@@ -3,7 +3,7 @@ use Rattle.std.proofs.lemmas.List.{take_all}
 use Rattle.afdx_config.specs.Admission.{links_from}
 use Rattle.afdx_config.specs.Rows.{LinkRow, link_row}
 use Rattle.afdx_admit.proofs.TakenLemmas.{with_row, without_row}
-use Rattle.afdx_send.specs.declared.line.Line.{Line}
+use Rattle.afdx_send.specs.declared.line.SystemLink.{SystemLink}
 use Rattle.afdx_send.specs.New.{AreNewLines}
 use Rattle.afdx_send.proofs.NewLemmas.{lines_push, filter_short}
 use Rattle.afdx_send.proofs.build.new_lines.Goals as goal
@@ -21,13 +21,13 @@ loop-place-preserved c =
           let pushed = lines_push (links_from (take i links) c.args.system.0)
           c.loop-place.lines.items row _ c.loop-place.invariant w.in_ok-line.ensures in
           subst (λ (z : List LinkRow). AreNewLines z c.if-eq.lines.items) (sym more)
-          (subst (λ (z : List Line). AreNewLines
+          (subst (λ (z : List SystemLink). AreNewLines
           (links_from (take i links) c.args.system.0 ++ row ∷ []) z)
           (sym (ap (λ v. v.items) w.lines-is ∙ w.in_ok-push.ensures.items)) pushed))
       | else-eq w ↦
           (let less = without_row own links i row c.link-link.ensures.row (sym c.eq.ensures ∙ w.if-eq.false) in
           subst (λ (z : List LinkRow). AreNewLines z c.if-eq.lines.items) (sym less)
-          (subst (λ (z : List Line). AreNewLines (links_from (take i links) c.args.system.0) z)
+          (subst (λ (z : List SystemLink). AreNewLines (links_from (take i links) c.args.system.0) z)
           (sym (ap (λ v. v.items) w.lines-is)) c.loop-place.invariant))
     ]
 

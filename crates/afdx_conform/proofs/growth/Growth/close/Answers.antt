@@ -12,7 +12,7 @@ use Rattle.afdx_conform.specs.States.{Closing}
 use Rattle.afdx_conform.specs.declared.arrived.Arrived.{Arrived}
 use Rattle.afdx_conform.specs.declared.finding.Finding.{Finding}
 use Rattle.afdx_conform.specs.declared.growth.Growth.{Growth}
-use Rattle.afdx_conform.specs.declared.limits.Frame.{Frame}
+use Rattle.afdx_conform.specs.declared.limits.LeftFrame.{LeftFrame}
 use Rattle.afdx_conform.proofs.GatherLemmas.{known-after, with_known}
 use Rattle.afdx_conform.proofs.GrowthCloses.{Close, after-close, closed-of, frames-held}
 use Rattle.afdx_conform.proofs.ClosedLemmas.{closes, same-frame}
@@ -24,7 +24,7 @@ forget-requires c =
     let s = c.requires.sound in
     let marks = c.in_ok-found.ensures.marks in
     let within = c.in_ok-found.ensures.within (length c.args.self.now.judging.marks.items)
-    (subst (λ (fs : List Frame). All (λ h. IsWithin c.args.self.now.bounds.rates (length fs)
+    (subst (λ (fs : List LeftFrame). All (λ h. IsWithin c.args.self.now.bounds.rates (length fs)
     (length c.args.self.now.judging.marks.items) h) c.args.self.now.judging.held.items)
     (sym c.as_slice-2.ensures.value) s.within) in
     subst (λ (g : Growth). IsSound g) (sym c.count.ensures) (record {
@@ -32,7 +32,7 @@ forget-requires c =
       within = subst (λ (n : ℕ). All (λ h. IsWithin c.args.self.now.bounds.rates (length c.args.self.now.frames.items)
           n h)
           c.close_with.new.judging.held.items) (sym marks)
-          (subst (λ (fs : List Frame). All (λ h. IsWithin c.args.self.now.bounds.rates (length fs)
+          (subst (λ (fs : List LeftFrame). All (λ h. IsWithin c.args.self.now.bounds.rates (length fs)
           (length c.args.self.now.judging.marks.items) h) c.close_with.new.judging.held.items)
           c.as_slice-2.ensures.value within);
       closed = (let p = c.requires.place in omega (arith, p));
@@ -56,29 +56,31 @@ returns-clause-decides c z xs ys cut over f sure at next r =
     let same = same-frame c.args.self.now.frames.items c.args.self.now.closed f c.index.result.now c.requires.place at
     is in
     let order = frames-held r.past ys c.args.self.now.frames.items r.after.told.left r.kept.left in
-    let order' = subst (λ (l : List Frame). AreFrames l) (sym c.as_slice-frames.ensures.value) order in
-    let lt = subst (λ (l : List Frame). c.args.self.now.closed < length l) (sym c.as_slice-frames.ensures.value)
+    let order' = subst (λ (l : List LeftFrame). AreFrames l) (sym c.as_slice-frames.ensures.value) order in
+    let lt = subst (λ (l : List LeftFrame). c.args.self.now.closed < length l) (sym c.as_slice-frames.ensures.value)
     c.requires.place in
-    let there = is ∙ ap (λ (l : List Frame). get_or l c.args.self.now.closed c.index.result.now)
+    let there = is ∙ ap (λ (l : List LeftFrame). get_or l c.args.self.now.closed c.index.result.now)
     (sym c.as_slice-frames.ensures.value) in
     let closed = closes c.as_slice-frames.result.now c.args.self.now.closed c.closed_by-to.result c.index.result.now
     order' lt there
     c.closed_by-to.ensures.low c.closed_by-to.ensures.high (c.closed_by-to.ensures.closed order')
     c.closed_by-to.ensures.behind in
-    let closed' = subst (λ (l : List Frame). AreClosed c.index.result.now.time c.closed_by-to.result (map gone_of l))
+    let closed' = subst (λ (l : List LeftFrame). AreClosed c.index.result.now.time c.closed_by-to.result
+    (map gone_of l))
     (c.as_slice-frames.ensures.value ∙ sym c.as_slice-2.ensures.value) closed in
     let sure' = sym r.continues.stands.unsure ∙ sure in
     let given = subst (λ (l : List Arrived). StandsFor c.args.self.now.bounds.rates c.as_slice-2.result.now l
     r.continues.j
     c.args.self.now.judging) (sym c.as_slice.ensures.value)
-    (subst (λ (l : List Frame). StandsFor c.args.self.now.bounds.rates l c.args.self.now.arrivals.items r.continues.j
+    (subst (λ (l : List LeftFrame). StandsFor c.args.self.now.bounds.rates l c.args.self.now.arrivals.items
+    r.continues.j
     c.args.self.now.judging) (sym c.as_slice-2.ensures.value) r.continues.stands) in
     let out = c.in_ok-found.ensures.defined z c.index.result.now.time r.continues.j r.after.bounds closed' sure' given
     in
     let held = closed-of z c.index.result.now c.args.self.now c.close_with.new.judging r.continues.j
     c.as_slice.result.now c.as_slice-2.result.now c.as_slice.ensures.value c.as_slice-2.ensures.value out.0 in
     let to = c.closed_by-to.result in
-    let next' = subst (λ (v : Frame). next_of z (coming xs over) (unclosed ys over) ≡ Some (Closing v.time))
+    let next' = subst (λ (v : LeftFrame). next_of z (coming xs over) (unclosed ys over) ≡ Some (Closing v.time))
     (sym same) next in
     let one = subst (λ (s : Growth). IsAfter z xs ys cut (Closing c.index.result.now.time ∷ over) s
     × AreFound (c.index.result.now.time + reach z.by) c.in_ok-found.found.items (judged_by z xs ys over)
@@ -90,7 +92,8 @@ returns-clause-decides c z xs ys cut over f sure at next r =
     (after-close z xs ys cut over c.index.result.now c.args.self.now c.close_with.new.judging c.in_ok-found.found.items
     c.closed_by-to.result r.gone r.past r.kept r.continues sure held out.1 c.in_ok-found.ensures.marks r.after
     next')) in
-    subst (λ (v : Frame). Decides z xs ys cut over c.forget.new.self (Closing v.time) None c.in_ok-found.found.items)
+    subst (λ (v : LeftFrame). Decides z xs ys cut over c.forget.new.self (Closing v.time) None
+    c.in_ok-found.found.items)
     same (
       c.forget.ensures.after z xs ys cut (Closing c.index.result.now.time ∷ over) one.0,
       one.1,

@@ -3,8 +3,8 @@ use Rattle.std.proofs.lemmas.List.Elements.{recursion_from_All}
 use Rattle.std.specs.Prelude.{All, Some}
 use Rattle.afdx_conform.specs.HeldStates.{AreClosed}
 use Rattle.afdx_conform.specs.Limits.{AreFrames, gone_of}
-use Rattle.afdx_conform.specs.declared.limits.Frame.{Frame}
-use Rattle.afdx_conform.specs.declared.states.Held.{Held}
+use Rattle.afdx_conform.specs.declared.limits.LeftFrame.{LeftFrame}
+use Rattle.afdx_conform.specs.declared.states.StreamState.{StreamState}
 use Rattle.afdx_conform.proofs.ClosedLemmas.{closes, not-later}
 use Rattle.afdx_conform.proofs.GrowthCloses.{frames-held}
 use Rattle.afdx_conform.proofs.GrowthNext.{closes-at, next-held}
@@ -24,16 +24,17 @@ returns-clause-after c = (
       ∙ closes-at z (length c.args.self.now.judging.marks.items) c.args.self.now.closed c.args.self.now.arrivals.items
       c.args.self.now.frames.items c.index.result.now c.args.self.now.bounds.limits.reach f.bounds.limits.reach lt at
       (λ a less e. c.upcoming.ensures.before a c.index.result.now is less e at) in
-      let order = subst (λ (l : List Frame). AreFrames l) (sym c.as_slice.ensures.value)
+      let order = subst (λ (l : List LeftFrame). AreFrames l) (sym c.as_slice.ensures.value)
       (frames-held h.past ys c.args.self.now.frames.items f.told.left h.kept.left) in
-      let inside = subst (λ (l : List Frame). c.args.self.now.closed < length l) (sym c.as_slice.ensures.value) lt in
-      let there = at ∙ ap (λ (l : List Frame). get_or l c.args.self.now.closed c.index.result.now)
+      let inside = subst (λ (l : List LeftFrame). c.args.self.now.closed < length l) (sym c.as_slice.ensures.value) lt
+      in
+      let there = at ∙ ap (λ (l : List LeftFrame). get_or l c.args.self.now.closed c.index.result.now)
       (sym c.as_slice.ensures.value) in
       let closed = closes c.as_slice.result.now c.args.self.now.closed c.closed_by-to.result c.index.result.now order
       inside there
       c.closed_by-to.ensures.low c.closed_by-to.ensures.high (c.closed_by-to.ensures.closed order)
       c.closed_by-to.ensures.behind in
-      let passed = subst (λ (l : List Held). All (λ h. c.passed_by_all-passed.result ≤ h.passed) l)
+      let passed = subst (λ (l : List StreamState). All (λ h. c.passed_by_all-passed.result ≤ h.passed) l)
       c.as_slice-2.ensures.value
       c.passed_by_all-passed.ensures.all in
       let ge = c.if-passed-to.false in
@@ -44,9 +45,9 @@ returns-clause-after c = (
       after-quiet z xs ys cut over c.index.result.now c.args.self.now c.closed_by-to.result c.args.moment f
       c.if-self.false
       c.requires.started next
-      (subst (λ (l : List Frame). AreClosed c.index.result.now.time c.closed_by-to.result (map gone_of l))
+      (subst (λ (l : List LeftFrame). AreClosed c.index.result.now.time c.closed_by-to.result (map gone_of l))
       c.as_slice.ensures.value closed)
-      (recursion_from_All (λ (h : Held). c.closed_by-to.result ≤ h.passed) c.args.self.now.judging.held.items
+      (recursion_from_All (λ (h : StreamState). c.closed_by-to.result ≤ h.passed) c.args.self.now.judging.held.items
       (λ i d less. let le = passed i d less in omega (arith, le, ge)))
       (omega (arith, early, apart)),
 )

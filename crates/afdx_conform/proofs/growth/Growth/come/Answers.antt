@@ -17,7 +17,7 @@ use Rattle.afdx_conform.specs.Naming.{AreSettled}
 use Rattle.afdx_conform.specs.States.{Came, arrivals_came}
 use Rattle.afdx_conform.specs.declared.arrived.Arrived.{Arrived}
 use Rattle.afdx_conform.specs.declared.growth.Growth.{Growth}
-use Rattle.afdx_conform.specs.declared.limits.Frame.{Frame}
+use Rattle.afdx_conform.specs.declared.limits.LeftFrame.{LeftFrame}
 use Rattle.afdx_conform.proofs.ClosedLemmas.{same-arrived}
 use Rattle.afdx_conform.proofs.GatherLemmas.{known-after, with_known}
 use Rattle.afdx_conform.proofs.GrowthDecides.{Come, after-come, outcome-of}
@@ -30,7 +30,7 @@ judge_with-requires-clause-within c = (
   length c.args.self.now.judging.marks.items,
   (let p = c.requires.sound.places in let a = c.requires.sound.arrivals in let n = c.requires.sound.came in
       omega (arith, p, a, n)),
-  subst (λ (fs : List Frame). All (λ h. IsWithin c.args.self.now.bounds.rates (length fs)
+  subst (λ (fs : List LeftFrame). All (λ h. IsWithin c.args.self.now.bounds.rates (length fs)
       (length c.args.self.now.judging.marks.items) h) c.args.self.now.judging.held.items)
       (sym c.as_slice-2.ensures.value) c.requires.sound.within,
 )
@@ -42,7 +42,7 @@ close_explained-requires-clause-sound c =
     let within = c.in_ok-found.ensures.within (regulation_of (rule_of c.args.self.now.rule))
     (leeway_of c.args.self.now.by)
     (length c.args.self.now.judging.marks.items) s.rates
-    (subst (λ (fs : List Frame). All (λ h. IsWithin c.args.self.now.bounds.rates (length fs)
+    (subst (λ (fs : List LeftFrame). All (λ h. IsWithin c.args.self.now.bounds.rates (length fs)
     (length c.args.self.now.judging.marks.items) h) c.args.self.now.judging.held.items)
     (sym c.as_slice-2.ensures.value) s.within) in
     subst (λ (g : Growth). IsSound g) (sym c.count.ensures) (record {
@@ -50,7 +50,7 @@ close_explained-requires-clause-sound c =
       within = subst (λ (n : ℕ). All (λ h. IsWithin c.args.self.now.bounds.rates (length c.args.self.now.frames.items)
           n h)
           c.judge_with.new.judging.held.items) (sym marks)
-          (subst (λ (fs : List Frame). All (λ h. IsWithin c.args.self.now.bounds.rates (length fs)
+          (subst (λ (fs : List LeftFrame). All (λ h. IsWithin c.args.self.now.bounds.rates (length fs)
           (length c.args.self.now.judging.marks.items + 1) h) c.judge_with.new.judging.held.items)
           c.as_slice-2.ensures.value within);
       closed = s.closed;
@@ -89,7 +89,8 @@ returns-clause-decides c = (
       let given = subst (λ (l : List Arrived). StandsFor c.args.self.now.bounds.rates c.as_slice-2.result.now l
       r.continues.j
       c.args.self.now.judging) (sym c.as_slice.ensures.value)
-      (subst (λ (l : List Frame). StandsFor c.args.self.now.bounds.rates l c.args.self.now.arrivals.items r.continues.j
+      (subst (λ (l : List LeftFrame). StandsFor c.args.self.now.bounds.rates l c.args.self.now.arrivals.items
+      r.continues.j
       c.args.self.now.judging) (sym c.as_slice-2.ensures.value) r.continues.stands) in
       let out = c.in_ok-found.ensures.defined z (last_time z.by (arrivals_came (sound_events z over))) r.continues.j
       r.after.bounds judged

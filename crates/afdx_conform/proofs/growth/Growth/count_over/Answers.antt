@@ -1,7 +1,7 @@
 use Rattle.std.proofs.Common.{rules, ◌≡◌, ◌<◌, List, get_or, length, sym, ap, ◌∙◌, subst, arith}
 use Rattle.std.specs.Prelude.{All}
 use Rattle.afdx_conform.specs.declared.arrived.Arrived.{Arrived}
-use Rattle.afdx_conform.specs.declared.states.Held.{Held}
+use Rattle.afdx_conform.specs.declared.states.StreamState.{StreamState}
 use Rattle.afdx_conform.proofs.GrowthLemmas.{true-false}
 use Rattle.afdx_conform.proofs.LeanLemmas.{asked-behind, half-of}
 use Rattle.afdx_conform.proofs.StillLemmas.{none-waits}
@@ -10,7 +10,7 @@ use Rattle.afdx_conform.proofs.growth.Growth.count_over.Goals as goal
 pub returns-then-not-none_waits-clause-asked : goal.returns-then-not-none_waits-clause-asked
 returns-then-not-none_waits-clause-asked c place still order low le k a more lt is =
     absurd (true-false (c.none_waits.ensures ∙ none-waits c.as_slice.result.now
-    (subst (λ (l : List Held). All (λ h. h.waiting ≡ 0) l) (sym c.as_slice.ensures.value) still))
+    (subst (λ (l : List StreamState). All (λ h. h.waiting ≡ 0) l) (sym c.as_slice.ensures.value) still))
     c.if-not-none_waits.true)
 
 pub returns-then-count-half-clause-asked : goal.returns-then-count-half-clause-asked

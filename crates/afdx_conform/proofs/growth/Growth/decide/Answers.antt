@@ -4,7 +4,7 @@ use Rattle.afdx_conform.specs.Growing.{Decides, IsKnownBy}
 use Rattle.afdx_conform.specs.States.{Event}
 use Rattle.afdx_conform.specs.declared.arrived.Arrived.{Arrived}
 use Rattle.afdx_conform.specs.declared.finding.Mark.{Mark}
-use Rattle.afdx_conform.specs.declared.limits.Frame.{Frame}
+use Rattle.afdx_conform.specs.declared.limits.LeftFrame.{LeftFrame}
 use Rattle.afdx_conform.specs.declared.upcoming.Upcoming.{Upcoming}
 use Rattle.afdx_conform.proofs.GrowthNext.{arrives-at, closes-at, next-held, no-event, none-at, none-of, some-frame, the-event}
 use Rattle.afdx_conform.proofs.ClosedLemmas.{on-ok, some-arrived}
@@ -66,7 +66,7 @@ returns-in-Closing-clause-decides c =
           (λ a less at. c.upcoming.ensures.before a one.0 is less at one.1) in
           let same = c.in_ok-start.ensures.same in
           let event = the-event (sym next ∙ first) in
-          let at = one.1 ∙ ap (λ (l : List Frame). get_or l c.args.self.now.closed one.0) (sym same.frames)
+          let at = one.1 ∙ ap (λ (l : List LeftFrame). get_or l c.args.self.now.closed one.0) (sym same.frames)
           ∙ ap (λ (n : ℕ). get_or c.start.new.self.frames.items n one.0) (sym same.closed) in
           subst (λ (w : Event). Decides z xs ys cut over c.close.new.self w None v.items) event
           (q z xs ys cut over one.0 (same.is_unsure ∙ sure) at first (c.in_ok-start.ensures.ready z xs ys cut over f

@@ -2,7 +2,7 @@ use Rattle.std.proofs.Common.{◌≤◌, ℕ, List, length, drop, sym, ap, ◌�
 use Rattle.std.specs.Prelude.{All}
 use Rattle.afdx_conform.specs.Holding.{AreAsked}
 use Rattle.afdx_conform.specs.declared.finding.Mark.{Mark}
-use Rattle.afdx_conform.specs.declared.states.Held.{Held}
+use Rattle.afdx_conform.specs.declared.states.StreamState.{StreamState}
 use Rattle.afdx_conform.proofs.LeanLemmas.{early-left, in-order, lean-both, lean-frames, still-past}
 use Rattle.afdx_conform.proofs.PassedLemmas.{all-passed, all-still}
 use Rattle.afdx_conform.proofs.growth.Growth.forget.Goals as goal
@@ -11,7 +11,7 @@ pub returns-then-count-eq0-clause-lean : goal.returns-then-count-eq0-clause-lean
 returns-then-count-eq0-clause-lean c z xs ys cut over some none f =
     let sure = c.if-self.false in
     let is = c.passed_by_all-passed.ensures.whole
-    (subst (λ (l : List Held). All (λ h. c.args.self.now.closed ≤ h.passed) l)
+    (subst (λ (l : List StreamState). All (λ h. c.args.self.now.closed ≤ h.passed) l)
     (sym c.as_slice.ensures.value) (all-passed z xs ys cut over c.args.self.now f sure some)) in
     let still = all-still z xs ys cut over c.args.self.now f sure some none in
     let order = in-order z xs ys cut over c.args.self.now f.told (f.sure sure) in
@@ -44,7 +44,7 @@ pub returns-clause-lean : goal.returns-clause-lean
 returns-clause-lean c z xs ys cut over some none f =
     let sure = c.if-self.false in
     let is = c.passed_by_all-passed.ensures.whole
-    (subst (λ (l : List Held). All (λ h. c.args.self.now.closed ≤ h.passed) l)
+    (subst (λ (l : List StreamState). All (λ h. c.args.self.now.closed ≤ h.passed) l)
     (sym c.as_slice.ensures.value) (all-passed z xs ys cut over c.args.self.now f sure some)) in
     let still = all-still z xs ys cut over c.args.self.now f sure some none in
     let order = in-order z xs ys cut over c.args.self.now f.told (f.sure sure) in

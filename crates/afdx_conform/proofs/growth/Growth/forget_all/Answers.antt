@@ -1,7 +1,7 @@
 use Rattle.std.proofs.Common.{rules, length, List, sym, ap, ◌∙◌, arith}
 use Rattle.std.proofs.lemmas.List.{length-drop}
 use Rattle.afdx_conform.specs.declared.arrived.Arrived.{Arrived}
-use Rattle.afdx_conform.specs.declared.limits.Frame.{Frame}
+use Rattle.afdx_conform.specs.declared.limits.LeftFrame.{LeftFrame}
 use Rattle.afdx_conform.proofs.LeanLemmas.{none-undecided}
 use Rattle.afdx_conform.proofs.StandingDecides.{due-unsure}
 use Rattle.afdx_conform.proofs.growth.Growth.forget_all.Goals as goal
@@ -20,7 +20,7 @@ returns-clause-sound c =
     let all_came = c.len-came.ensures in
     let came = ap (λ (l : List Arrived). length l) c.give_back_first.ensures
     ∙ length-drop c.len-came.result c.args.self.now.arrivals.items in
-    let left = ap (λ (l : List Frame). length l) c.give_back_first-2.ensures
+    let left = ap (λ (l : List LeftFrame). length l) c.give_back_first-2.ensures
     ∙ length-drop c.len-left.result c.args.self.now.frames.items in
     let few = s.arrivals in
     let frames = s.frames in

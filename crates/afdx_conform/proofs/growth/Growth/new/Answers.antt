@@ -1,6 +1,6 @@
 use Rattle.std.proofs.Common.{rules, List, length, refl, ap, arith}
 use Rattle.afdx_conform.specs.declared.arrived.Arrived.{Arrived}
-use Rattle.afdx_conform.specs.declared.limits.Frame.{Frame}
+use Rattle.afdx_conform.specs.declared.limits.LeftFrame.{LeftFrame}
 use Rattle.afdx_conform.proofs.GrowthStarts.{after-none}
 use Rattle.afdx_conform.proofs.UndecidedLemmas.{due-nothing}
 use Rattle.afdx_conform.proofs.growth.Growth.new.Goals as goal
@@ -13,7 +13,7 @@ returns-clause-after c z b by =
 pub returns-clause-due : goal.returns-clause-due
 returns-clause-due c =
     let arrivals = ap (λ (l : List Arrived). length l) c.new-3.ensures.items in
-    let frames = ap (λ (l : List Frame). length l) c.new-5.ensures.items in
+    let frames = ap (λ (l : List LeftFrame). length l) c.new-5.ensures.items in
     due-nothing _ (omega (arith, arrivals)) (omega (arith, frames))
 
 pub returns-clause-sound : goal.returns-clause-sound

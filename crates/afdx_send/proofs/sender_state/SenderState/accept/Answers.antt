@@ -1,7 +1,7 @@
 use Rattle.std.proofs.Common.{arith, ap, ◌∙◌, subst, sym, ◌≡◌, ◌+◌, ◌-◌, length}
 use Rattle.afdx_frame.specs.Sealing.{AreBytes}
 use Rattle.afdx_frame.proofs.ListLemmas.{slice_get-one}
-use Rattle.afdx_send.specs.declared.line.Line.{Line}
+use Rattle.afdx_send.specs.declared.line.SystemLink.{SystemLink}
 use Rattle.afdx_send.specs.Lines.{CanTake}
 use Rattle.afdx_send.specs.Regulator.{submission_of}
 use Rattle.afdx_send.specs.Releases.{Submission}
@@ -69,7 +69,7 @@ add-requires-clause-queue c = λ line has.
     ap (λ v. v.items) c.new-message.ensures.payload ∙ c.in-Ok.ensures.copied in
     let n : length c.new-message.result.payload.items ≡ length c.args.payload.now =
     ap (λ v. length v.items) c.new-message.ensures.payload ∙ ap length c.in-Ok.ensures.copied in
-    subst (λ (z : Line). CanTake z (c.from.result - 1) c.new-message.result) same
+    subst (λ (z : SystemLink). CanTake z (c.from.result - 1) c.new-message.result) same
     (can_take c.index.result.now (c.from.result - 1) c.args.sub c.new-message.result
     (length c.args.payload.now) lets at n (omega (arith, c.new-message.ensures.udp))
     (subst AreBytes (sym same_bytes) (λ i. (c.type_inv.payload i).fits)))

@@ -1,0 +1,60 @@
+use Rattle.std.proofs.Common.{◌≡◌, ◌≤◌, None, Some, sym, ap, ◌∙◌, subst, arith, false, true≢false}
+use Rattle.std.specs.Prelude.{is_some}
+use Rattle.std.proofs.lemmas.Option.{same_Some}
+use Rattle.afdx_command_conform.proofs.AddedLemmas.{on-ok}
+use Rattle.afdx_command_conform.proofs.FullLemmas.{not-ended, raised, said-end}
+use Rattle.afdx_command_conform.proofs.BegunLemmas.{begun-from}
+use Rattle.afdx_command_conform.proofs.judging.JudgingRun.close_before.Goals as goal
+
+pub returns-then-self-clause-stands : goal.returns-then-self-clause-stands
+returns-then-self-clause-stands g c k before start frames le latest h = (
+  h.0,
+  h.1,
+  raised k frames before c.args.time c.args.self.now h.0 le
+      (λ end none said. absurd (true≢false (sym c.if-self.true ∙ h.2.over ∙ ap is_some none))) h.2,
+)
+
+pub returns-in_default-clause-stands : goal.returns-in_default-clause-stands
+returns-in_default-clause-stands g c k before start frames le latest h = (
+  h.0,
+  h.1,
+  raised k frames before c.args.time c.args.self.now h.0 le
+      (λ end none said. absurd (let bad = sym c.in_default.is ∙ ap (λ x. x.until) h.1.choices_are ∙ said in cc bad))
+      h.2,
+)
+
+pub returns-else-until-time-clause-stands : goal.returns-else-until-time-clause-stands
+returns-else-until-time-clause-stands g c k before start frames le latest h = (
+  h.0,
+  h.1,
+  raised k frames before c.args.time c.args.self.now h.0 le
+      (λ end none said. let same = same_Some c.in-Some.until end (sym c.in-Some.is ∙ ap (λ x. x.until) h.1.choices_are
+      ∙ said) in
+      let test = c.if-until-time.false in subst (λ n. c.args.time ≤ n) same (omega (arith, test))) h.2,
+)
+
+pub returns-then-until-time-clause-stands : goal.returns-then-until-time-clause-stands
+returns-then-until-time-clause-stands g c k before start frames le latest h =
+    let said : k.1.until ≡ Some c.in-Some.until = sym (sym c.in-Some.is ∙ ap (λ x. x.until) h.1.choices_are) in
+    let none = not-ended k frames before c.args.self.now h.0 (c.if-self.false) h.2 in
+    let test = c.if-until-time.true in
+    let in-time = h.2.running c.in-Some.until none said in
+    on-ok (λ r. r.0) c.close.result
+    (c.close.ensures.stands k false before c.args.time start frames in-time (omega (arith, test))
+    (omega (arith, latest, in-time))
+    (said-end k.1.until frames c.in-Some.until said)
+    (λ end is. let same = same_Some c.in-Some.until end (sym said ∙ is) in subst (λ n. c.in-Some.until ≤ n) same
+    (omega arith))
+    (said, test) none h)
+
+pub returns-then-until-time-clause-begun : goal.returns-then-until-time-clause-begun
+returns-then-until-time-clause-begun g c = λ k before start frames le latest h.
+    let said : k.1.until ≡ Some c.in-Some.until = sym (sym c.in-Some.is ∙ ap (λ x. x.until) h.1.choices_are) in
+    let none = not-ended k frames before c.args.self.now h.0 (c.if-self.false) h.2 in
+    let test = c.if-until-time.true in
+    let in-time = h.2.running c.in-Some.until none said in
+    begun-from c.close.result k c.in-Some.until c.args.time None start _ frames (omega (arith, latest, in-time))
+    (omega (arith, test))
+    (c.close.ensures.begun k before start frames in-time
+    (λ end is. let same = same_Some c.in-Some.until end (sym said ∙ is) in subst (λ n. c.in-Some.until ≤ n) same
+    (omega arith)) none h)

@@ -1,7 +1,0 @@
-use Rattle.std.proofs.Common.{◌∙◌}
-use Rattle.afdx_command_conform.proofs.AddedLemmas.{kept-none}
-use Rattle.afdx_command_conform.proofs.kept.Kept.new.Goals as goal
-
-pub returns : goal.returns
-returns c t c' until time count =
-    kept-none t c' until time _ (c.in_ok-slots.ensures.count ∙ count) c.in_ok-slots.ensures.nothing c.new.ensures
