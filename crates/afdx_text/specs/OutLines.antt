@@ -118,12 +118,12 @@ apart_line vl ns = codes "apart " ++ decimal vl ++ codes " " ++ bound_text ns ++
 abbrev pub line_text : OutLine → List ℕ
 line_text (Verdict n site reason) = verdict_line n (site_text site) reason
 line_text (Lost n site port) = loss_line n (site_text site) port
-line_text (Left n time site port is_too_old) =
-    departure_line is_too_old n time (site_text site) port
+line_text (Left left) =
+    departure_line left.too_old left.n left.time (site_text left.site) left.port
 line_text (Message time system vl bytes) = message_line time system.now vl.0 bytes.now
 line_text (Unread time system n why) = drop_line time system.now n (drop_word why)
-line_text (Listed kind time site port bytes) =
-    frame_line kind (site_text site) port time bytes.now
+line_text (Listed listed) =
+    frame_line listed.kind (site_text listed.site) listed.port listed.time listed.bytes.now
 line_text (Remark word n) = remark_line word.now n
 line_text (Refused n word) = refused_line n word.now
 line_text (Bounds port high low buffer) = bounds_line port high low buffer
@@ -139,11 +139,11 @@ line_text (Conform line) = conform_text line
 abbrev pub longest : OutLine → ℕ
 longest (Verdict n site reason) = 128 + length site.switch.now
 longest (Lost n site port) = 128 + length site.switch.now
-longest (Left n time site port is_too_old) = 128 + length site.switch.now
+longest (Left left) = 128 + length left.site.switch.now
 longest (Message time system vl bytes) = 128 + length system.now + 2 * length bytes.now
 longest (Unread time system n why) = 128 + length system.now
-longest (Listed kind time site port bytes) =
-    128 + length site.switch.now + 2 * length bytes.now
+longest (Listed listed) =
+    128 + length listed.site.switch.now + 2 * length listed.bytes.now
 longest (Remark word n) = 128 + length word.now
 longest (Refused n word) = 128 + length word.now
 longest (Bounds port high low buffer) = 128

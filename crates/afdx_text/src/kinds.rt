@@ -3,7 +3,7 @@
 
 ghost use Rattle.std.specs.Prelude.{◌≡◌, ◌≤◌, ◌+◌, ◌*◌, ◌++◌, length, take};
 ghost use Rattle.afdx_receive.specs.Words.{drop_word};
-ghost use Rattle.afdx_text.specs.OutLines.{verdict_text, letter_of, kind_letter};
+ghost use Rattle.afdx_text.specs.OutLines.{site_text, verdict_text, letter_of, kind_letter};
 ghost use Rattle.afdx_text.specs.OutLines.{verdict_line, loss_line};
 ghost use Rattle.afdx_text.specs.OutLines.{departure_line, message_line, drop_line, frame_line};
 ghost use Rattle.afdx_text.specs.OutLines.{refused_line, remark_line};
@@ -11,6 +11,8 @@ ghost use Rattle.afdx_text.specs.OutLines.{refused_line, remark_line};
 use crate::numeral::Numeral;
 use crate::piece::{put, put_digits, put_number, put_piece, put_small};
 use crate::place::LinePlace;
+use crate::site::Site;
+use crate::sited::{DepartureLine, ListedLine};
 use afdx_input_lines::FrameKind;
 use afdx_police::Reason;
 use afdx_receive::DropReason;
@@ -68,7 +70,7 @@ fn put_why(room: &mut [u8], at: usize, why: DropReason) -> usize
 
 /// `V n place accept`, or `V n place drop WORD`.
 #[inline(never)]
-pub(crate) fn put_verdict<P: LinePlace>(
+fn put_verdict_at<P: LinePlace>(
     room: &mut [u8],
     at: usize,
     n: u64,
@@ -89,15 +91,30 @@ pub(crate) fn put_verdict<P: LinePlace>(
     put(room, at, b"\n")
 }
 
-/// `L n place port`.
-#[inline(never)]
-pub(crate) fn put_loss<P: LinePlace>(
+/// `V n site accept`, or `V n site drop WORD`.
+#[inline(always)]
+pub(crate) fn put_verdict(
     room: &mut [u8],
     at: usize,
     n: u64,
-    place: P,
-    port: u8,
+    site: Site<'_>,
+    reason: Option<Reason>,
 ) -> usize
+    requires { at + 128 + length site.switch.now ≤ length room.old }
+    ensures within { result ≤ at + 128 + length site.switch.now }
+    ensures text { take result room.new
+        ≡ take at room.old ++ verdict_line n (site_text site) reason }
+{
+    if site.switch.is_empty() {
+        put_verdict_at(room, at, n, site.side, reason)
+    } else {
+        put_verdict_at(room, at, n, site, reason)
+    }
+}
+
+/// `L n place port`.
+#[inline(never)]
+fn put_loss_at<P: LinePlace>(room: &mut [u8], at: usize, n: u64, place: P, port: u8) -> usize
     requires { at + 128 + P.named place ≤ length room.old }
     ensures within { result ≤ at + 128 + P.named place }
     ensures text { take result room.new ≡ take at room.old ++ loss_line n (P.text place) port }
@@ -109,6 +126,20 @@ pub(crate) fn put_loss<P: LinePlace>(
     let at = put(room, at, b" ");
     let at = put_small(room, at, port);
     put(room, at, b"\n")
+}
+
+/// `L n site port`.
+#[inline(always)]
+pub(crate) fn put_loss(room: &mut [u8], at: usize, n: u64, site: Site<'_>, port: u8) -> usize
+    requires { at + 128 + length site.switch.now ≤ length room.old }
+    ensures within { result ≤ at + 128 + length site.switch.now }
+    ensures text { take result room.new ≡ take at room.old ++ loss_line n (site_text site) port }
+{
+    if site.switch.is_empty() {
+        put_loss_at(room, at, n, site.side, port)
+    } else {
+        put_loss_at(room, at, n, site, port)
+    }
 }
 
 /// Puts what happened to a frame at an output port.
@@ -216,26 +247,27 @@ impl LastNumbers {
         put(room, at, b"\n")
     }
 
-    /// `D n time place port`, or `T ..`.
+    /// `D n time site port`, or `T ..`.
     #[inline(always)]
-    pub(crate) fn put_departure<P: LinePlace>(
+    pub(crate) fn put_departure(
         &mut self,
         room: &mut [u8],
         at: usize,
-        n: u64,
-        time: u64,
-        place: P,
-        port: u8,
-        too_old: bool,
+        left: &DepartureLine<'_>,
     ) -> usize
-        requires { at + 128 + P.named place ≤ length room.old }
-        ensures within { result ≤ at + 128 + P.named place }
-        ensures text { take result room.new
-            ≡ take at room.old ++ departure_line too_old n time (P.text place) port }
+        requires { at + 128 + length left.now.site.switch.now ≤ length room.old }
+        ensures within { result ≤ at + 128 + length left.now.site.switch.now }
+        ensures text { take result room.new ≡ take at room.old
+            ++ departure_line left.now.too_old left.now.n left.now.time
+            (site_text left.now.site) left.now.port }
     {
-        self.n.set(n);
-        self.time.set(time);
-        self.put_left(room, at, place, port, too_old)
+        self.n.set(left.n);
+        self.time.set(left.time);
+        if left.site.switch.is_empty() {
+            self.put_left(room, at, left.site.side, left.port, left.too_old)
+        } else {
+            self.put_left(room, at, left.site, left.port, left.too_old)
+        }
     }
 
     /// `M time system vl hex`.
@@ -280,33 +312,54 @@ impl LastNumbers {
         self.put_unread(room, at, name, why)
     }
 
-    /// `K time place port hex`.
+    /// The line of a frame list, at a place.
     #[inline(never)]
-    pub(crate) fn put_listed<P: LinePlace>(
+    fn put_listed_at<P: LinePlace>(
         &mut self,
         room: &mut [u8],
         at: usize,
-        kind: FrameKind,
-        time: u64,
+        listed: &ListedLine<'_>,
         place: P,
-        port: u8,
-        bytes: &[u8],
     ) -> usize
-        requires { at + 128 + P.named place + 2 * length bytes.now ≤ length room.old }
-        ensures within { result ≤ at + 128 + P.named place + 2 * length bytes.now }
-        ensures text { take result room.new
-            ≡ take at room.old ++ frame_line kind (P.text place) port time bytes.now }
+        requires { at + 128 + P.named place + 2 * length listed.now.bytes.now ≤ length room.old }
+        ensures within { result ≤ at + 128 + P.named place + 2 * length listed.now.bytes.now }
+        ensures text { take result room.new ≡ take at room.old
+            ++ frame_line listed.now.kind (P.text place) listed.now.port listed.now.time
+            listed.now.bytes.now }
     {
-        self.time.set(time);
-        let at = put_kind(room, at, kind);
+        self.time.set(listed.time);
+        let at = put_kind(room, at, listed.kind);
         let at = self.time.put(room, at);
         let at = put(room, at, b" ");
         let at = place.put(room, at);
         let at = put(room, at, b" ");
-        let at = put_small(room, at, port);
+        let at = put_small(room, at, listed.port);
         let at = put(room, at, b" ");
-        let at = put_digits(room, at, bytes);
+        let at = put_digits(room, at, listed.bytes);
         put(room, at, b"\n")
+    }
+
+    /// `K time site port hex`.
+    #[inline(always)]
+    pub(crate) fn put_listed(
+        &mut self,
+        room: &mut [u8],
+        at: usize,
+        listed: &ListedLine<'_>,
+    ) -> usize
+        requires { at + 128 + length listed.now.site.switch.now + 2 * length listed.now.bytes.now
+            ≤ length room.old }
+        ensures within { result
+            ≤ at + 128 + length listed.now.site.switch.now + 2 * length listed.now.bytes.now }
+        ensures text { take result room.new ≡ take at room.old
+            ++ frame_line listed.now.kind (site_text listed.now.site) listed.now.port
+            listed.now.time listed.now.bytes.now }
+    {
+        if listed.site.switch.is_empty() {
+            self.put_listed_at(room, at, listed, listed.site.side)
+        } else {
+            self.put_listed_at(room, at, listed, listed.site)
+        }
     }
 }
 

@@ -9,8 +9,8 @@ use crate::conform_line::{ConformLine, MOST_OF_CONFORM};
 use crate::kinds::{LastNumbers, put_loss, put_refusal, put_remark, put_verdict};
 use crate::piece::put;
 use crate::site::Site;
+use crate::sited::{DepartureLine, ListedLine};
 use afdx_frame::VlId;
-use afdx_input_lines::FrameKind;
 use afdx_police::Reason;
 use afdx_receive::DropReason;
 use std::alloc::AllocError;
@@ -31,13 +31,7 @@ pub enum OutLine<'a> {
         port: u8,
     },
     /// A copy of it left a port, `D n time site port`, or was dropped there: `T ..`.
-    Left {
-        n: u64,
-        time: u64,
-        site: Site<'a>,
-        port: u8,
-        too_old: bool,
-    },
+    Left(DepartureLine<'a>),
     /// A system read a message: `M time system vl hex`.
     Message {
         time: u64,
@@ -53,13 +47,7 @@ pub enum OutLine<'a> {
         why: DropReason,
     },
     /// A line of a frame list: `K time site port hex`, with `F`, `B` or `R` for K.
-    Listed {
-        kind: FrameKind,
-        time: u64,
-        site: Site<'a>,
-        port: u8,
-        bytes: &'a [u8],
-    },
+    Listed(ListedLine<'a>),
     /// A number of a recording that is skipped, a remark in a list: `# WORD n`.
     Remark {
         word: &'a str,
@@ -129,17 +117,17 @@ impl OutLine<'_> {
         match self {
             OutLine::Verdict { site, .. } => MOST_FIXED.checked_add(site.switch.len()),
             OutLine::Lost { site, .. } => MOST_FIXED.checked_add(site.switch.len()),
-            OutLine::Left { site, .. } => MOST_FIXED.checked_add(site.switch.len()),
+            OutLine::Left(left) => MOST_FIXED.checked_add(left.site.switch.len()),
             OutLine::Message { system, bytes, .. } => {
                 MOST_FIXED
                     .checked_add(system.len())?
                     .checked_add(2 * bytes.len())
             }
             OutLine::Unread { system, .. } => MOST_FIXED.checked_add(system.len()),
-            OutLine::Listed { site, bytes, .. } => {
+            OutLine::Listed(listed) => {
                 MOST_FIXED
-                    .checked_add(site.switch.len())?
-                    .checked_add(2 * bytes.len())
+                    .checked_add(listed.site.switch.len())?
+                    .checked_add(2 * listed.bytes.len())
             }
             OutLine::Remark { word, .. } => MOST_FIXED.checked_add(word.len()),
             OutLine::Refused { word, .. } => MOST_FIXED.checked_add(word.len()),
@@ -171,33 +159,9 @@ impl OutLine<'_> {
         ensures text { take result room.new ≡ take at room.old ++ line_text self.now }
     {
         match self {
-            OutLine::Verdict { n, site, reason } => {
-                if site.switch.is_empty() {
-                    put_verdict(room, at, *n, site.side, *reason)
-                } else {
-                    put_verdict(room, at, *n, *site, *reason)
-                }
-            }
-            OutLine::Lost { n, site, port } => {
-                if site.switch.is_empty() {
-                    put_loss(room, at, *n, site.side, *port)
-                } else {
-                    put_loss(room, at, *n, *site, *port)
-                }
-            }
-            OutLine::Left {
-                n,
-                time,
-                site,
-                port,
-                too_old,
-            } => {
-                if site.switch.is_empty() {
-                    kept.put_departure(room, at, *n, *time, site.side, *port, *too_old)
-                } else {
-                    kept.put_departure(room, at, *n, *time, *site, *port, *too_old)
-                }
-            }
+            OutLine::Verdict { n, site, reason } => put_verdict(room, at, *n, *site, *reason),
+            OutLine::Lost { n, site, port } => put_loss(room, at, *n, *site, *port),
+            OutLine::Left(left) => kept.put_departure(room, at, left),
             OutLine::Message {
                 time,
                 system,
@@ -210,19 +174,7 @@ impl OutLine<'_> {
                 n,
                 why,
             } => kept.put_drop(room, at, *time, system, *n, *why),
-            OutLine::Listed {
-                kind,
-                time,
-                site,
-                port,
-                bytes,
-            } => {
-                if site.switch.is_empty() {
-                    kept.put_listed(room, at, *kind, *time, site.side, *port, bytes)
-                } else {
-                    kept.put_listed(room, at, *kind, *time, *site, *port, bytes)
-                }
-            }
+            OutLine::Listed(listed) => kept.put_listed(room, at, listed),
             OutLine::Remark { word, n } => put_remark(room, at, word, *n),
             OutLine::Refused { n, word } => put_refusal(room, at, *n, word),
             OutLine::Bounds {
