@@ -103,8 +103,8 @@ impl LinkRule {
         self.policing
     }
 
-    /// The greatest size of the link's frames on the wire, in bytes: Lmax, and 20 for preamble, start
-    /// delimiter and the gap between frames.
+    /// The greatest size of the link's frames on the wire, in bytes: Lmax, and 20 for preamble,
+    /// start delimiter and the gap between frames.
     pub fn smax(&self) -> u64
         ensures { result ≡ (regulation_of (rule_of self.now)).smax }
     {

@@ -46,6 +46,8 @@ fn verdicts() -> Result<(), Fail> {
     let rule: LinkRule = rule().ok_or("a rule")?;
     equal(may_be_late(), true)?;
     let policing: Policing = rule.policing();
+    let (smax, fill_ns): (u64, u64) = (rule.smax(), rule.fill_time());
+    equal((smax, fill_ns), (84, 1_500_000))?;
     let bytes: &[u8] = &hello(0);
     let port: u8 = 2;
     let wrong: Option<Reason> = judge(Some(&rule), port, bytes);
