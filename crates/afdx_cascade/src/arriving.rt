@@ -28,65 +28,64 @@ use afdx_police::Reason;
 use afdx_switch::Verdict;
 use std::alloc::AllocError;
 
+/// A port of one of several switches, by its place, at which frames come in.
+#[derive(Clone, Copy, Debug)]
+pub(crate) struct EntryPort {
+    pub switch: usize,
+    pub side: Side,
+    pub port: u8,
+}
+
 /// A frame of the list arrives at a switch, at a port where no cable is. The error says that memory
 /// was refused: then nothing has changed. A frame that is dropped for its shape needs none.
 pub(crate) fn arrive_at(
     networks: &mut [Network],
-    switch: usize,
-    side: Side,
+    to: EntryPort,
     time: u64,
-    port: u8,
     tag: u64,
     frame: Checked<'_>,
 ) -> Result<Verdict, AllocError>
-    requires within { switch < length networks.old }
+    requires within { to.switch < length networks.old }
     requires limit { time ≤ latest_put }
     requires clock { (k : ℕ) (n : At) → slice_get networks.old k ≡ Some n →
         network.IsUntil n time }
-    requires quiet { (n : At) → slice_get networks.old switch ≡ Some n →
+    requires quiet { (n : At) → slice_get networks.old to.switch ≡ Some n →
         network.IsQuiet n time }
     ensures clock { (k : ℕ) (n : At) → slice_get networks.new k ≡ Some n →
         network.IsUntil n time }
-    ensures still { (n : At) → slice_get networks.new switch ≡ Some n →
+    ensures still { (n : At) → slice_get networks.new to.switch ≡ Some n →
         network.IsQuiet n time }
     ensures length { length networks.new ≡ length networks.old }
-    ensures others { AreOthersSame switch networks.old networks.new }
+    ensures others { AreOthersSame to.switch networks.old networks.new }
     ensures stands { (c : Plan) (at : ℕ) (ring : List OnCable) (so_far : List SwitchEvent) →
-        Stands c networks.old at ring so_far → c.far_end switch port ≡ None →
-        let x = arrival_with tag time side port (bytes_of frame.entry) in
-        OnOk result (Stands c networks.new at ring (arriving c so_far switch x ∷ so_far)) }
+        Stands c networks.old at ring so_far → c.far_end to.switch to.port ≡ None →
+        let x = arrival_with tag time to.side to.port (bytes_of frame.entry) in
+        OnOk result (Stands c networks.new at ring (arriving c so_far to.switch x ∷ so_far)) }
     ensures verdict { (c : Plan) (at : ℕ) (ring : List OnCable) (so_far : List SwitchEvent) →
         Stands c networks.old at ring so_far →
-        let x = arrival_with tag time side port (bytes_of frame.entry) in
+        let x = arrival_with tag time to.side to.port (bytes_of frame.entry) in
         IfOk result (λ verdict. network.Tells verdict
-        (admission_after (c.tables switch) (came_to switch so_far) x)) }
+        (admission_after (c.tables to.switch) (came_to to.switch so_far) x)) }
     ensures judged { (c : Plan) (at : ℕ) (ring : List OnCable) (so_far : List SwitchEvent) →
         Stands c networks.old at ring so_far →
-        let x = arrival_with tag time side port (bytes_of frame.entry) in
-        OnErr result (shape_fault (c.tables switch) x ≡ None) }
+        let x = arrival_with tag time to.side to.port (bytes_of frame.entry) in
+        OnErr result (shape_fault (c.tables to.switch) x ≡ None) }
     ensures refused { OnErr result (networks.new ≡ networks.old) }
 {
-    networks[switch].arrive(side, time, port, tag, frame)
+    networks[to.switch].arrive(to.side, time, to.port, tag, frame)
 }
 
 /// By how many nanoseconds a frame comes too early that arrives at a switch at `time`, if none
 /// comes before it.
-pub(crate) fn early_at(
-    networks: &[Network],
-    switch: usize,
-    side: Side,
-    time: u64,
-    port: u8,
-    frame: Checked<'_>,
-) -> u64
-    requires within { switch < length networks.now }
-    requires clock { (n : At) → slice_get networks.now switch ≡ Some n → network.IsUntil n time }
+pub(crate) fn early_at(networks: &[Network], to: EntryPort, time: u64, frame: Checked<'_>) -> u64
+    requires within { to.switch < length networks.now }
+    requires clock { (n : At) → slice_get networks.now to.switch ≡ Some n → network.IsUntil n time }
     ensures { (c : Plan) (so_far : List SwitchEvent) (tag : ℕ) → AllStand c networks.now so_far →
-        let x = arrival_with tag time side port (bytes_of frame.entry) in
-        shape_fault (c.tables switch) x ≡ None →
-        IsEarlyBy (c.tables switch) (came_to switch so_far) x result }
+        let x = arrival_with tag time to.side to.port (bytes_of frame.entry) in
+        shape_fault (c.tables to.switch) x ≡ None →
+        IsEarlyBy (c.tables to.switch) (came_to to.switch so_far) x result }
 {
-    networks[switch].early(side, time, port, frame)
+    networks[to.switch].early(to.side, time, to.port, frame)
 }
 
 /// The next turn of a switch that is given by `until`.
@@ -200,5 +199,10 @@ pub(crate) fn early_by(
     let departure = &departed.departure;
     let time = departure.time();
     let frame = departure.frame();
-    early_at(networks, switch, departed.side, time, port, frame)
+    let to = EntryPort {
+        switch,
+        side: departed.side,
+        port,
+    };
+    early_at(networks, to, time, frame)
 }

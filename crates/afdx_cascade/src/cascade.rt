@@ -4,7 +4,7 @@ ghost use Rattle.std.specs.Prelude.{◌≡◌, ℕ, ◌<◌, ◌≤◌, List, []
 ghost use Rattle.afdx_frame.specs.Parts.{bytes_of};
 ghost use Rattle.afdx_port.specs.Times.{latest_put};
 
-use crate::arriving::{arrive_at, early_at};
+use crate::arriving::{EntryPort, arrive_at, early_at};
 use crate::build::{new_ends, new_keys, new_networks};
 use crate::cable::InTransit;
 use crate::scan::{first_of, least_of, renew};
@@ -89,7 +89,8 @@ impl Cascade {
             OnErr result (shape_fault (c.tables switch) x ≡ None) }
         ensures refused { OnErr result (IsUnchanged self.old self.new) }
     {
-        let verdict = arrive_at(&mut self.networks, switch, side, time, port, tag, frame)?;
+        let to = EntryPort { switch, side, port };
+        let verdict = arrive_at(&mut self.networks, to, time, tag, frame)?;
         self.least = renew(&mut self.keys, self.least, &self.networks, switch);
         Ok(verdict)
     }
@@ -106,7 +107,12 @@ impl Cascade {
             shape_fault (c.tables switch) arrival ≡ None →
             IsEarlyBy (c.tables switch) (came_to switch so_far) arrival result }
     {
-        early_at(&self.networks, switch, side, time, port, frame)
+        early_at(
+            &self.networks,
+            EntryPort { switch, side, port },
+            time,
+            frame,
+        )
     }
 
     /// The next event of all that happen before a frame of the list that arrives at `until`, in ns:
