@@ -79,7 +79,7 @@ message_of seal m known h =
 pub long_whole : (seal : Seal) (m : List ℕ) → IsSealedAs seal m → IsWholeFrame (whole seal m) → 12 ≤ length m
 long_whole seal m known h = (message_of seal m known h).long
 
-common_sealed : (m : List ℕ) → 12 ≤ length m → common (sealed m) ≡ take 11 m ++ drop 12 m
+pub common_sealed : (m : List ℕ) → 12 ≤ length m → common (sealed m) ≡ take 11 m ++ drop 12 m
 common_sealed m long =
     let seq : List ℕ = to_le_bytes w32 (sequence_of m) in
     let size : length (m ++ seq) - 4 ≡ length m = omega (arith, length-append m seq) in

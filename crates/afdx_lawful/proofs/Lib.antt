@@ -9,3 +9,5 @@ pub mod BuiltLemmas
 pub mod AccusedLemmas
 pub mod RingLemmas
 pub mod CopyLemmas
+pub mod TwoNetworkLemmas
+pub mod NearnessLemmas

@@ -11,3 +11,5 @@ pub mod Paces
 pub mod Tracks
 pub mod Right
 pub mod Rings
+pub mod TwoNetworks
+pub mod Nearness

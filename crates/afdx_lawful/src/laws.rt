@@ -1,7 +1,9 @@
 //! Laws over the definitions.
 
 ghost use Rattle.afdx_lawful.specs.Accepted.{LawfulIsAccepted};
+ghost use Rattle.afdx_lawful.specs.Nearness.{NearnessIsNeeded};
 ghost use Rattle.afdx_lawful.specs.Right.{BuiltIsLawful, RightIsNotAccused, RightIsSilent};
+ghost use Rattle.afdx_lawful.specs.TwoNetworks.{BuiltIsLawfulTwice};
 ghost use Rattle.afdx_lawful.specs.Worked.{WorkedRows};
 
 /// What is found of some short recordings.
@@ -22,4 +24,17 @@ pub fn right_is_silent()
     ensures by_side { RightIsSilent }
     ensures alone { RightIsNotAccused }
     ensures built { BuiltIsLawful }
+{}
+
+/// A stream of frames that are built, released a gap apart, and given to both networks at one time
+/// is lawful on two networks, where each sends at times of its own and frames are read.
+pub fn built_is_lawful_twice()
+    ensures { BuiltIsLawfulTwice }
+{}
+
+/// Where the copies of a frame are sent as far apart as its way leaves them, each message is read
+/// once, and all is met that this asks. A nanosecond further, and all else being met, one is read
+/// twice.
+pub fn nearness_is_needed()
+    ensures { NearnessIsNeeded }
 {}

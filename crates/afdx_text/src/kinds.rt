@@ -101,9 +101,9 @@ pub(crate) fn put_verdict(
     reason: Option<Reason>,
 ) -> usize
     requires { at + 128 + length site.switch.now ≤ length room.old }
-    ensures within { result ≤ at + 128 + length site.switch.now }
+    ensures within { result ≤ at + 128 + length site.entry.switch.now }
     ensures text { take result room.new
-        ≡ take at room.old ++ verdict_line n (site_text site) reason }
+        ≡ take at room.old ++ verdict_line n (site_text site.entry) reason }
 {
     if site.switch.is_empty() {
         put_verdict_at(room, at, n, site.side, reason)
@@ -132,8 +132,9 @@ fn put_loss_at<P: LinePlace>(room: &mut [u8], at: usize, n: u64, place: P, port:
 #[inline(always)]
 pub(crate) fn put_loss(room: &mut [u8], at: usize, n: u64, site: Site<'_>, port: u8) -> usize
     requires { at + 128 + length site.switch.now ≤ length room.old }
-    ensures within { result ≤ at + 128 + length site.switch.now }
-    ensures text { take result room.new ≡ take at room.old ++ loss_line n (site_text site) port }
+    ensures within { result ≤ at + 128 + length site.entry.switch.now }
+    ensures text { take result room.new
+        ≡ take at room.old ++ loss_line n (site_text site.entry) port }
 {
     if site.switch.is_empty() {
         put_loss_at(room, at, n, site.side, port)
