@@ -28,21 +28,21 @@ returns-clause-stands c p at ring so_far st free =
     c.arrive.new.self st c.requires.within free stands)
     (c.arrive.ensures.stands (p.tables k) (at_switch k so_far)
     (st.all.each k _
-    (slice_get-get_or c.args.networks.now k c.index-networks-switch.result c.requires.within)))
+    (slice_get-get_or c.args.networks.now k c.index-networks-to.result c.requires.within)))
 
 pub returns-clause-verdict : goal.returns-clause-verdict
 returns-clause-verdict c p at ring so_far st =
     let k = c.args.to.switch in
     c.arrive.ensures.verdict (p.tables k) (at_switch k so_far)
     (st.all.each k _
-    (slice_get-get_or c.args.networks.now k c.index-networks-switch.result c.requires.within))
+    (slice_get-get_or c.args.networks.now k c.index-networks-to.result c.requires.within))
 
 pub returns-clause-judged : goal.returns-clause-judged
 returns-clause-judged c p at ring so_far st =
     let k = c.args.to.switch in
     c.arrive.ensures.judged (p.tables k) (at_switch k so_far)
     (st.all.each k _
-    (slice_get-get_or c.args.networks.now k c.index-networks-switch.result c.requires.within))
+    (slice_get-get_or c.args.networks.now k c.index-networks-to.result c.requires.within))
 
 pub returns-clause-length : goal.returns-clause-length
 returns-clause-length c = length-set c.args.networks.now c.args.to.switch c.arrive.new.self
