@@ -11,3 +11,4 @@ pub mod RingLemmas
 pub mod CopyLemmas
 pub mod TwoNetworkLemmas
 pub mod NearnessLemmas
+pub mod OneSideLemmas

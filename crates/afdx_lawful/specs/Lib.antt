@@ -11,5 +11,8 @@ pub mod Paces
 pub mod Tracks
 pub mod Right
 pub mod Rings
+pub mod Ways
+pub mod OneSide
+pub mod Senders
 pub mod TwoNetworks
 pub mod Nearness

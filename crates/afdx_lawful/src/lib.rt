@@ -10,9 +10,13 @@ mod flaws;
 mod late;
 pub mod laws;
 mod limits;
+mod one_side;
 mod pace;
 mod partners;
+mod sender;
 mod track;
 mod waits;
+mod ways;
 
 pub use finding::{Flaw, SenderFinding};
+pub use ways::SystemWay;

@@ -27,6 +27,19 @@ pub(crate) struct Alone {
     pub soon: Option<u64>,
 }
 
+impl Alone {
+    ghost use Rattle.std.specs.Prelude.{ℕ};
+    ghost use Rattle.afdx_lawful.specs.Alone.{is_empty};
+    ghost use Rattle.afdx_lawful.specs.Tracks.{told_alone};
+
+    /// Nothing is found.
+    pub fn is_quiet(&self) -> bool
+        ensures { (line : ℕ) → result ≡ is_empty (told_alone line self.now) }
+    {
+        self.flaw.is_none() && self.number.is_none() && self.soon.is_none()
+    }
+}
+
 /// The sequence number one step behind (ARINC 664 Part 7).
 fn next_number(number: u8) -> u8
     ensures { result ≡ number_behind number }

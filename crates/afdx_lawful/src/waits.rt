@@ -3,6 +3,7 @@
 ghost use Rattle.std.specs.Prelude.{◌≡◌, ◌≤◌};
 ghost use Rattle.afdx_frame.specs.Parts.{number_of_frame};
 ghost use Rattle.afdx_frame.specs.Times.{latest_listed};
+ghost use Rattle.afdx_lawful.specs.Flaws.{IsWholeFrame};
 
 use afdx_conform::CheckedBytes;
 
@@ -17,4 +18,5 @@ pub(crate) struct Waits {
     pub is_quiet: bool,
     pub ghost listed: { time ≤ latest_listed },
     pub ghost numbered: { number ≡ number_of_frame bytes },
+    pub ghost whole: { IsWholeFrame bytes },
 }

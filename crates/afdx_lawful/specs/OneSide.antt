@@ -1,0 +1,51 @@
+-- What the code keeps of the frames of a source on each network.
+use Rattle.std.specs.Prelude.{◌≡◌, ℕ, Bool, List, [], ◌∷◌, ◌++◌}
+use Rattle.afdx_frame.specs.Parts.{bytes_of}
+use Rattle.afdx_frame.specs.declared.link.Side.{Side}
+use Rattle.afdx_lawful.specs.Flaws.{whole_of}
+use Rattle.afdx_lawful.specs.Judged.{waiting_of}
+use Rattle.afdx_lawful.specs.Partners.{Waiting, other}
+use Rattle.afdx_lawful.specs.Rings.{all_as}
+use Rattle.afdx_lawful.specs.Sources.{Came, Source, on_side}
+use Rattle.afdx_lawful.specs.Tracks.{IsTrack, told_alone}
+use Rattle.afdx_lawful.specs.declared.finding.SenderFinding.{SenderFinding}
+use Rattle.afdx_lawful.specs.declared.finding.SenderFinding.TheVariants as finding
+use Rattle.afdx_lawful.specs.declared.one_side.Copied.{Copied}
+use Rattle.afdx_lawful.specs.declared.one_side.Copied.TheVariants.{Well, Differs, Late}
+use Rattle.afdx_lawful.specs.declared.one_side.Heard.{Heard}
+use Rattle.afdx_lawful.specs.declared.one_side.OneSide.{OneSide}
+use Rattle.afdx_lawful.specs.declared.one_side.Whole.{Whole}
+use Rattle.afdx_lawful.specs.declared.waits.Waits.{Waits}
+
+-- it came on this side
+pub record IsCame (side : Side) (w : Whole) (x : Came) : Type 0 where
+  pub line : x.line ≡ w.line
+  pub time : x.time ≡ w.time
+  pub side : x.side ≡ side
+  pub bytes : x.bytes ≡ bytes_of w.frame
+
+-- what is told of a frame of this line by its copy
+abbrev pub told_copy : ℕ → Copied → List SenderFinding
+told_copy line Well = []
+told_copy line Differs = finding.Differs line ∷ []
+told_copy line (Late by) = finding.Apart line by ∷ []
+
+-- all that is told of it, in its order
+abbrev pub told_heard : ℕ → Heard → List SenderFinding
+told_heard line heard = told_alone line heard.alone ++ told_copy line heard.copied
+
+-- one more waits, the newest last
+abbrev pub WaitsToo : Side → List Waits → Came → Bool → List Waits → Type 0
+WaitsToo side before x is_quiet after =
+    all_as side after ≡ all_as side before ++ record { frame = x; is_quiet = is_quiet } ∷ []
+
+-- of a side it keeps what is known after these frames
+pub record StandsOn (s : Source) (side : Side) (xs : List Came) (one : OneSide) : Type 0 where
+  pub track : IsTrack s (on_side side (whole_of xs)) one.track
+  pub waiting : all_as side one.waiting.items ≡ waiting_of s side xs
+
+-- and of both, this side first
+pub record StandOn (s : Source) (side : Side) (xs : List Came) (own others : OneSide)
+    : Type 0 where
+  pub own : StandsOn s side xs own
+  pub others : StandsOn s (other side) xs others

@@ -1,0 +1,180 @@
+//! The frames of a source on one network, and one more of them.
+
+ghost use Rattle.std.specs.Prelude.{◌≡◌, ◌≤◌, List, ◌∷◌, IfOk, OnOk, Some};
+ghost use Rattle.afdx_frame.specs.Parts.{bytes_of, number_of_frame};
+ghost use Rattle.afdx_frame.specs.Times.{latest_listed};
+ghost use Rattle.afdx_frame.specs.declared.link.Side.{Side};
+ghost use Rattle.afdx_lawful.specs.Flaws.{IsWholeFrame, flaw_of};
+ghost use Rattle.afdx_lawful.specs.Judged.{found_of, found_with};
+ghost use Rattle.afdx_lawful.specs.OneSide.{IsCame, StandOn, StandsOn, WaitsToo, told_copy, told_heard};
+ghost use Rattle.afdx_lawful.specs.Rings.{waiting_as};
+ghost use Rattle.afdx_lawful.specs.Sources.{Came, Source as Terms};
+ghost use Rattle.afdx_lawful.specs.Ways.{AreTerms};
+
+use crate::copies::is_copy;
+use crate::finding::Flaw;
+use crate::late::too_late;
+use crate::partners::take_partner;
+use crate::track::{Alone, Track};
+use crate::waits::Waits;
+use crate::ways::SourceTerms;
+use afdx_conform::{CheckedBytes, Spare};
+use afdx_frame::Checked;
+use std::alloc::{AllocError, Global};
+
+/// What is found of a frame by its copy on the other network.
+#[derive(Clone, Copy, Debug, PartialEq, Eq)]
+pub(crate) enum Copied {
+    /// Nothing: it came in time, or is waited for.
+    Well,
+    /// It isn't the same.
+    Differs,
+    /// It came so many ns too late.
+    Late(u64),
+}
+
+/// A frame that isn't damaged: its line, its time in ns, its bytes, and its sequence number.
+#[derive(Clone, Copy, Debug)]
+pub(crate) struct Whole<'a> {
+    pub line: u64,
+    pub time: u64,
+    pub frame: Checked<'a>,
+    pub number: u8,
+    pub ghost listed: { time ≤ latest_listed },
+    pub ghost numbered: { number ≡ number_of_frame (bytes_of frame) },
+    pub ghost whole: { IsWholeFrame (bytes_of frame) },
+}
+
+/// What is found of a frame when it comes.
+#[derive(Clone, Copy, Debug)]
+pub(crate) struct Heard {
+    pub alone: Alone,
+    pub copied: Copied,
+}
+
+impl Heard {
+    ghost use Rattle.std.specs.Prelude.{ℕ, option_map, option_to_list};
+    ghost use Rattle.afdx_lawful.specs.declared.finding.SenderFinding.TheVariants.{Unlawful};
+
+    /// Nothing is found but what is wrong with the frame by itself.
+    pub fn damaged(flaw: Option<Flaw>) -> Heard
+        ensures { (line : ℕ) → told_heard line result
+            ≡ option_to_list (option_map (Unlawful line) flaw) }
+    {
+        let alone = Alone {
+            flaw,
+            number: None,
+            soon: None,
+        };
+        Heard {
+            alone,
+            copied: Copied::Well,
+        }
+    }
+}
+
+/// What is found of a frame by its partner.
+fn compare(terms: &SourceTerms, whole: Whole<'_>, partner: &Waits) -> Copied
+    ensures { (s : Terms) (side by : Side) (x : Came) → AreTerms s terms.now →
+        IsCame side whole.entry x →
+        told_copy whole.line result ≡ found_with s x (Some (waiting_as by partner.now)) }
+{
+    if !is_copy(whole.frame, partner.bytes.frame()) {
+        return Copied::Differs;
+    }
+    let apart = terms.apart.of(&terms.limits, whole.frame.length());
+    match too_late(&terms.limits, apart, whole.time, partner.time) {
+        Some(by) => Copied::Late(by),
+        None => Copied::Well,
+    }
+}
+
+/// The frames of one side: what is known of those that came, and those that wait for their copies,
+/// the oldest first.
+#[derive(Debug, Drop)]
+pub(crate) struct OneSide {
+    track: Track,
+    waiting: Vec<Waits>,
+}
+
+impl OneSide {
+    ghost use Rattle.std.specs.Prelude.{[], None, if◌then◌else◌};
+    ghost use Rattle.afdx_lawful.specs.Alone.{first_number};
+
+    /// Nothing came yet; the first number is 0, unless frames came before the recordings.
+    pub fn new(alloc: Global, is_begun: bool) -> OneSide
+        ensures { (s : Terms) (side : Side) →
+            first_number s s.by.start ≡ (if is_begun then None else Some 0) →
+            StandsOn s side [] result }
+    {
+        OneSide {
+            track: Track::new(is_begun),
+            waiting: Vec::new(alloc),
+        }
+    }
+
+    /// A frame waits for its copy. The error says that memory was refused.
+    fn wait(
+        &mut self,
+        spare: &mut Spare,
+        whole: Whole<'_>,
+        is_quiet: bool,
+    ) -> Result<(), AllocError>
+        ensures track { self.new.track ≡ self.old.track }
+        ensures waits { (side : Side) (x : Came) → IsCame side whole.entry x →
+            OnOk result (WaitsToo side self.old.waiting.items x is_quiet self.new.waiting.items) }
+    {
+        let bytes = CheckedBytes::of(spare, whole.frame)?;
+        self.waiting.push(Waits {
+            line: whole.line,
+            time: whole.time,
+            number: whole.number,
+            bytes,
+            is_quiet,
+        })
+    }
+}
+
+/// One more frame comes on a side, which isn't damaged: what is found of it, of its own side first.
+/// The error says that memory was refused.
+pub(crate) fn hear(
+    own: &mut OneSide,
+    other: &mut OneSide,
+    terms: &SourceTerms,
+    whole: Whole<'_>,
+    flaw: Option<Flaw>,
+    spare: &mut Spare,
+) -> Result<Heard, AllocError>
+    ensures found { (s : Terms) (side : Side) (past : List Came) (x : Came) →
+        AreTerms s terms.now → IsCame side whole.entry x → flaw ≡ flaw_of s x →
+        StandOn s side past own.old other.old →
+        IfOk result (λ heard. told_heard whole.line heard ≡ found_of s past x) }
+    ensures stand { (s : Terms) (side : Side) (past : List Came) (x : Came) →
+        AreTerms s terms.now → IsCame side whole.entry x → flaw ≡ flaw_of s x →
+        StandOn s side past own.old other.old →
+        OnOk result (StandOn s side (x ∷ past) own.new other.new) }
+{
+    let alone = own
+        .track
+        .come(&terms.limits, whole.time, flaw, whole.number);
+    if !terms.is_paired {
+        return Ok(Heard {
+            alone,
+            copied: Copied::Well,
+        });
+    }
+    let partner = take_partner(&mut other.waiting, &terms.limits, whole.time, whole.number);
+    match partner {
+        Some(partner) => {
+            let copied = compare(terms, whole, &partner);
+            Ok(Heard { alone, copied })
+        }
+        None => {
+            own.wait(spare, whole, alone.is_quiet())?;
+            Ok(Heard {
+                alone,
+                copied: Copied::Well,
+            })
+        }
+    }
+}
