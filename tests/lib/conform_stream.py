@@ -10,7 +10,6 @@ from conform_terms import Came, Left, Levels, Terms
 CAME, CLOSES = 0, 1  # the events of one time, in their order
 MOST_STATES = 1_024
 OVER_RATE = "over-rate"
-FINDINGS = ("strange", "passed", "stopped", "late", "early")
 
 Event = tuple[int, int, int]  # its time, its kind, the place of its arrival or frame from 0
 
