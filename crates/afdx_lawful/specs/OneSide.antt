@@ -12,7 +12,7 @@ use Rattle.afdx_lawful.specs.declared.finding.SenderFinding.{SenderFinding}
 use Rattle.afdx_lawful.specs.declared.finding.SenderFinding.TheVariants as finding
 use Rattle.afdx_lawful.specs.declared.one_side.Copied.{Copied}
 use Rattle.afdx_lawful.specs.declared.one_side.Copied.TheVariants.{Well, Differs, Late}
-use Rattle.afdx_lawful.specs.declared.one_side.Heard.{Heard}
+use Rattle.afdx_lawful.specs.declared.one_side.HeardFrame.{HeardFrame}
 use Rattle.afdx_lawful.specs.declared.one_side.OneSide.{OneSide}
 use Rattle.afdx_lawful.specs.declared.one_side.Whole.{Whole}
 use Rattle.afdx_lawful.specs.declared.waits.Waits.{Waits}
@@ -31,7 +31,7 @@ told_copy line Differs = finding.Differs line ∷ []
 told_copy line (Late by) = finding.Apart line by ∷ []
 
 -- all that is told of it, in its order
-abbrev pub told_heard : ℕ → Heard → List SenderFinding
+abbrev pub told_heard : ℕ → HeardFrame → List SenderFinding
 told_heard line heard = told_alone line heard.alone ++ told_copy line heard.copied
 
 -- one more waits, the newest last

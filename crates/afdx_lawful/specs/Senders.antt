@@ -8,7 +8,7 @@ use Rattle.afdx_police.specs.declared.rule.LinkRule.{LinkRule}
 use Rattle.afdx_lawful.specs.OneSide.{StandOn}
 use Rattle.afdx_lawful.specs.Sources.{Came, Source}
 use Rattle.afdx_lawful.specs.Ways.{AreTerms, IsApart}
-use Rattle.afdx_lawful.specs.declared.sender.Sender.{Sender}
+use Rattle.afdx_lawful.specs.declared.sender.JudgedSource.{JudgedSource}
 use Rattle.afdx_lawful.specs.declared.ways.Apart.{Apart}
 
 -- it is a link of this rule from this system, where so much may be off, copies are sent so far
@@ -22,7 +22,7 @@ pub record IsOf (s : Source) (rule : LinkRule) (system : ℕ) (by : Leeway) (apa
   pub paired : s.is_paired ≡ is_paired
 
 -- these frames came, the newest first
-pub record StandsFor (s : Source) (xs : List Came) (sender : Sender) : Type 0 where
+pub record StandsFor (s : Source) (xs : List Came) (sender : JudgedSource) : Type 0 where
   pub rule : s.rule ≡ rule_of sender.rule
   pub system : s.system ≡ sender.system
   pub terms : AreTerms s sender.terms

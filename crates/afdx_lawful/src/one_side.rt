@@ -47,17 +47,17 @@ pub(crate) struct Whole<'a> {
 
 /// What is found of a frame when it comes.
 #[derive(Clone, Copy, Debug)]
-pub(crate) struct Heard {
+pub(crate) struct HeardFrame {
     pub alone: Alone,
     pub copied: Copied,
 }
 
-impl Heard {
+impl HeardFrame {
     ghost use Rattle.std.specs.Prelude.{ℕ, option_map, option_to_list};
     ghost use Rattle.afdx_lawful.specs.declared.finding.SenderFinding.TheVariants.{Unlawful};
 
     /// Nothing is found but what is wrong with the frame by itself.
-    pub fn damaged(flaw: Option<Flaw>) -> Heard
+    pub fn damaged(flaw: Option<Flaw>) -> HeardFrame
         ensures { (line : ℕ) → told_heard line result
             ≡ option_to_list (option_map (Unlawful line) flaw) }
     {
@@ -66,7 +66,7 @@ impl Heard {
             number: None,
             soon: None,
         };
-        Heard {
+        HeardFrame {
             alone,
             copied: Copied::Well,
         }
@@ -144,7 +144,7 @@ pub(crate) fn hear(
     whole: Whole<'_>,
     flaw: Option<Flaw>,
     spare: &mut Spare,
-) -> Result<Heard, AllocError>
+) -> Result<HeardFrame, AllocError>
     ensures found { (s : Terms) (side : Side) (past : List Came) (x : Came) →
         AreTerms s terms.now → IsCame side whole.entry x → flaw ≡ flaw_of s x →
         StandOn s side past own.old other.old →
@@ -158,7 +158,7 @@ pub(crate) fn hear(
         .track
         .come(&terms.limits, whole.time, flaw, whole.number);
     if !terms.is_paired {
-        return Ok(Heard {
+        return Ok(HeardFrame {
             alone,
             copied: Copied::Well,
         });
@@ -167,11 +167,11 @@ pub(crate) fn hear(
     match partner {
         Some(partner) => {
             let copied = compare(terms, whole, &partner);
-            Ok(Heard { alone, copied })
+            Ok(HeardFrame { alone, copied })
         }
         None => {
             own.wait(spare, whole, alone.is_quiet())?;
-            Ok(Heard {
+            Ok(HeardFrame {
                 alone,
                 copied: Copied::Well,
             })

@@ -10,7 +10,7 @@ ghost use Rattle.afdx_lawful.specs.Sources.{Came, Source as Terms, came_with};
 
 use crate::flaws::{Looked, look};
 use crate::limits::SenderLimits;
-use crate::one_side::{Heard, OneSide, Whole, hear};
+use crate::one_side::{HeardFrame, OneSide, Whole, hear};
 use crate::ways::{Apart, SourceTerms};
 use afdx_conform::{Leeway, Spare};
 use afdx_frame::{Checked, Side};
@@ -19,7 +19,7 @@ use std::alloc::{AllocError, Global};
 
 /// A link, and the system that sends it on both networks: what is known of the frames that came.
 #[derive(Debug, Drop)]
-pub(crate) struct Sender {
+pub(crate) struct JudgedSource {
     rule: LinkRule,
     system: u16,
     terms: SourceTerms,
@@ -27,7 +27,7 @@ pub(crate) struct Sender {
     b: OneSide,
 }
 
-impl Sender {
+impl JudgedSource {
     /// Nothing came yet of a link of this rule from this system, where stamps and clocks may be off
     /// so much, copies are sent so far apart, and both networks are seen, or one.
     pub fn new(
@@ -37,12 +37,12 @@ impl Sender {
         by: &Leeway,
         apart: Apart,
         is_paired: bool,
-    ) -> Sender
+    ) -> JudgedSource
         ensures { (s : Terms) → IsOf s rule.now system by.now apart is_paired →
             StandsFor s [] result }
     {
         let is_begun = by.start.is_some();
-        Sender {
+        JudgedSource {
             rule: *rule,
             system,
             terms: SourceTerms {
@@ -64,7 +64,7 @@ impl Sender {
         line: u64,
         time: u64,
         frame: Checked<'_>,
-    ) -> Result<Heard, AllocError>
+    ) -> Result<HeardFrame, AllocError>
         requires listed { time ≤ latest_listed }
         ensures found { (s : Terms) (past : List Came) → StandsFor s past self.old →
             IfOk result (λ heard. told_heard line heard
@@ -75,7 +75,7 @@ impl Sender {
     {
         let Looked { flaw, number } = look(&self.rule, self.system, side, frame);
         let Some(number) = number else {
-            return Ok(Heard::damaged(flaw));
+            return Ok(HeardFrame::damaged(flaw));
         };
         let whole = Whole {
             line,
