@@ -138,6 +138,17 @@ module _ (done : Type 0 → Type 0) (old new : KeptByKey) where
         AreKept t c until None time given lines old →
         done (AreKept t c until None time (with_left (key_of t outlet) y given) lines new)
 
+-- the stream at an outlet is kept, under its key
+abbrev pub FindsStream : ((Key → Type 0) → Type 0) → KeptByKey → KeptByKey → StreamRules → Outlet
+    → Type 0
+FindsStream done old new rules outlet =
+    let t = rules.tables.now in
+    (c : Choices) (until time : ℕ) (given : Key → Given) (lines : List Due) (l : LinkRow) →
+    slice_get t.links outlet.link ≡ Some l → is_to outlet.system.0 l ≡ true →
+    leeway_of rules.leeway ≡ c.by → AreKept t c until None time given lines old →
+    done (λ key. IsStreamOf t key l × IsStream (slot_at new.slots.items key)
+    × AreKept t c until None time given lines new)
+
 -- what is due first is told, and stands on the agenda no more
 abbrev pub TellsFirst : ((Lines → Type 0) → Type 0) → KeptByKey → KeptByKey → AgendaEntry → Option ℕ
     → Type 0

@@ -110,8 +110,7 @@ pub fn conform<P: Drop, A: SeenFrames<P>, O: Sink, E: Write>(
 
     // The command ends as a run by the tables of the switch answered; or the configuration isn't
     // read, or has no such switch: then nothing is read and nothing is written.
-    ensures judges { IsJudgedOr E.contents question.entry.config.now
-        (option_map (λ name. name.now) question.entry.switch) errors.old errors.new result
+    ensures judges { IsJudgedOr E.contents question.entry errors.old errors.new result
         (λ t answer. IsRun (A.ended inputs.new) (A.failed inputs.new) (O.failed output.new) answer
         × Answers (A.known inputs.old) (A.Takes options) inputs.new t (A.tapped options)
         question.entry.choices.now (O.written output.old) (O.written output.new) answer)

@@ -1,16 +1,15 @@
 //! What comes in or leaves joins the stream that it is of.
 
-ghost use Rattle.std.specs.Prelude.{◌≡◌, ◌<◌, ℕ, List, None, Some, IfOk, OnOk, length, slice_get, true};
+ghost use Rattle.std.specs.Prelude.{◌≡◌, ◌<◌, ℕ, List, None, IfOk, OnOk, length, true};
 ghost use Rattle.afdx_config.specs.Lawful.{IsLawfulSwitch};
-ghost use Rattle.afdx_config.specs.Rows.{LinkRow, Rows, is_to};
-ghost use Rattle.afdx_conform.specs.LeewayOf.{leeway_of};
+ghost use Rattle.afdx_config.specs.Rows.{Rows};
 ghost use Rattle.afdx_conform.specs.Limits.{gone_of};
 ghost use Rattle.afdx_command_conform.specs.Choices.{Choices};
-ghost use Rattle.afdx_command_conform.specs.Keeping.{AreKept, Given, IsStreamOf, is_known, slot_at};
+ghost use Rattle.afdx_command_conform.specs.Keeping.{AreKept, Given, is_known, slot_at};
 ghost use Rattle.afdx_command_conform.specs.Keys.{key_of, key_with};
 ghost use Rattle.afdx_command_conform.specs.Lines.{Due};
-ghost use Rattle.afdx_command_conform.specs.Slots.{IsStrange, IsStream};
-ghost use Rattle.afdx_command_conform.specs.Taking.{MakesStream, TakesArrival, TakesFrame};
+ghost use Rattle.afdx_command_conform.specs.Slots.{IsStrange};
+ghost use Rattle.afdx_command_conform.specs.Taking.{FindsStream, MakesStream, TakesArrival, TakesFrame};
 ghost use Rattle.afdx_command_conform.specs.Taking.{TakesStranger};
 
 use crate::kept::KeptByKey;
@@ -51,12 +50,7 @@ fn stream_to(
     requires system { outlet.system.0 < length rules.now.tables.now.systems }
     ensures lawful { IsLawfulSwitch rules.now.tables.now }
     ensures key { IfOk result (λ key. key ≡ key_of rules.now.tables.now outlet) }
-    ensures stands { let t = rules.now.tables.now in
-        (c : Choices) (until time : ℕ) (given : Key → Given) (lines : List Due) (l : LinkRow) →
-        slice_get t.links outlet.link ≡ Some l → is_to outlet.system.0 l ≡ true →
-        leeway_of rules.now.leeway ≡ c.by → AreKept t c until None time given lines kept.old →
-        IfOk result (λ key. IsStreamOf t key l × IsStream (slot_at kept.new.slots.items key)
-        × AreKept t c until None time given lines kept.new) }
+    ensures stands { FindsStream (λ done. IfOk result done) kept.old kept.new rules.now outlet }
 {
     let key = key_at(rules.tables, outlet);
     if !kept.has_stream(key) {
