@@ -48,7 +48,7 @@ pub(crate) struct Streams<'a> {
     hints: Hints,
     spare: Spare,
     kept: KeptByKey,
-    ended: Option<u64>,
+    pub ended: Option<u64>,
 }
 
 impl<'a> Streams<'a> {
