@@ -98,3 +98,13 @@ pub copy_by : (seal seal' : Seal) (m o : List ℕ) (x y : Came) → IsSealedAs s
 unfolding is_copy
 copy_by seal seal' m o x y known known' h h' is is' =
     sym (ap₂ bytes_eq (common_of seal m x.bytes known h is) (common_of seal' o y.bytes known' h' is'))
+
+-- ---- a whole frame is no longer than a frame may be
+
+long_at_most : (bytes : List ℕ) (r : Result FrameParts MacFault) → frame_of bytes ≡ r → is_frame r ≡ true →
+    length bytes ≤ 1518
+long_at_most bytes (Ok p) h e = ltb-false _ _ (right_long bytes p h).longest
+long_at_most bytes (Err fault) h e = absurd (cc e)
+
+pub at_most : (bytes : List ℕ) → IsWholeFrame bytes → length bytes ≤ 1518
+at_most bytes h = long_at_most bytes (frame_of bytes) refl h

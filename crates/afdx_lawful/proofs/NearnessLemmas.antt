@@ -1,5 +1,5 @@
 -- The example of copies that are sent apart meets what is asked, and computes.
-use Rattle.std.proofs.Common.{◌≡◌, ℕ, zero, suc, ◌+◌, ◌*◌, ◌≤◌, Bool, List, [], ◌∷◌, Option, Some, None, refl, sym, ap, ◌∙◌}
+use Rattle.std.proofs.Common.{◌≡◌, ℕ, zero, suc, ◌+◌, ◌*◌, ◌≤◌, List, [], ◌∷◌, Some, None, refl, sym, ap, ◌∙◌}
 use Rattle.std.proofs.Common.{arith}
 use Rattle.std.specs.Prelude.{Ok, filter, slice_get}
 use Rattle.afdx_frame.specs.Sides.{is_side}
@@ -11,13 +11,13 @@ use Rattle.afdx_frame.specs.Sealing.{is_sealed, sequence_of}
 use Rattle.afdx_frame.specs.declared.link.Side.{Side}
 use Rattle.afdx_frame.specs.declared.link.Side.TheVariants.{A, B}
 use Rattle.afdx_config.specs.Numbers.{after_steps}
-use Rattle.afdx_receive.specs.CopiesApart.{SentApart, AreFirstFrames, AreNear, AreQuick, AreSpaced, IsFrameOf, sent_on}
+use Rattle.afdx_receive.specs.CopiesApart.{SentApart, AreFirstFrames, AreNear, AreQuick, AreSpaced, sent_on}
 use Rattle.afdx_receive.specs.Delivery.{CarriesSent}
 use Rattle.afdx_config.specs.SentList.{Message}
 use Rattle.afdx_receive.specs.Integrity.{Incoming}
 use Rattle.afdx_receive.specs.Delivery.{delivered}
 use Rattle.afdx_receive.specs.Steps.{is_within_steps}
-use Rattle.afdx_lawful.specs.Nearness.{AreSent, NearnessIsNeeded, both_came, came_at, first_came, hello, sent_at, stream}
+use Rattle.afdx_lawful.specs.Nearness.{NearnessIsNeeded, both_came, came_at, first_came, hello, sent_at, stream}
 use Rattle.afdx_lawful.specs.Worked.{a0, a1, b0, b1}
 
 same_some : {X : Type 0} {x y : X} → Some x ≡ Some y → x ≡ y
@@ -112,15 +112,17 @@ both-sides A = (
     no_sooner = omega arith;
     in_time = omega arith;
   },
-  record {
-    sending = sent_at 0 988760;
-    at_place = refl;
-    number = refl;
-    carries = carries (hello ∷ hello ∷ []) 0 (came_at 5760 A 0 a0) refl refl;
-    no_sooner = omega arith;
-    in_time = omega arith;
-  },
-  tt,
+  (
+    record {
+      sending = sent_at 0 988760;
+      at_place = refl;
+      number = refl;
+      carries = carries (hello ∷ hello ∷ []) 0 (came_at 5760 A 0 a0) refl refl;
+      no_sooner = omega arith;
+      in_time = omega arith;
+    },
+    tt,
+  ),
 )
 both-sides B = (
   record {
@@ -131,15 +133,17 @@ both-sides B = (
     no_sooner = omega arith;
     in_time = omega arith;
   },
-  record {
-    sending = sent_at 0 988760;
-    at_place = refl;
-    number = refl;
-    carries = carries (hello ∷ hello ∷ []) 0 (came_at (988760 + 17000) B 0 b0) refl refl;
-    no_sooner = omega arith;
-    in_time = omega arith;
-  },
-  tt,
+  (
+    record {
+      sending = sent_at 0 988760;
+      at_place = refl;
+      number = refl;
+      carries = carries (hello ∷ hello ∷ []) 0 (came_at (988760 + 17000) B 0 b0) refl refl;
+      no_sooner = omega arith;
+      in_time = omega arith;
+    },
+    tt,
+  ),
 )
 
 -- one frame alone is spaced, and quick

@@ -1,21 +1,25 @@
 -- One more frame that isn't damaged, on a side of a source.
 use Rattle.std.proofs.Common.{◌≡◌, ℕ, Bool, true, false, List, [], ◌∷◌, ◌++◌, Option, Some, None, refl, sym, ap, ap₂, ◌∙◌, subst}
-use Rattle.std.specs.Prelude.{filter, find, if◌then◌else◌, ◌||◌}
+use Rattle.std.specs.Prelude.{OnOk, Result, Ok, Err, find, if◌then◌else◌, ◌||◌}
 use Rattle.std.specs.List.{list_any}
+use Rattle.std.specs.Option.{is_some}
 use Rattle.std.proofs.lemmas.Bool.{cond-true, cond-false}
 use Rattle.afdx_frame.specs.Sides.{is_side}
 use Rattle.afdx_frame.specs.declared.link.Side.{Side}
 use Rattle.afdx_frame.specs.declared.link.Side.TheVariants.{A, B}
-use Rattle.afdx_lawful.specs.Alone.{flawed, found_alone, is_empty}
-use Rattle.afdx_lawful.specs.Flaws.{is_whole, whole_of}
-use Rattle.afdx_lawful.specs.Judged.{found_of, found_whole, found_with, waiting_of}
-use Rattle.afdx_lawful.specs.OneSide.{StandOn, StandsOn, WaitsToo}
+use Rattle.afdx_frame.specs.Parts.{frame_of, number_of_frame}
+use Rattle.afdx_lawful.specs.Alone.{first_number, flawed, found_alone, is_empty, number_in}
+use Rattle.afdx_lawful.specs.Flaws.{IsWholeFrame, is_copy, is_frame, is_whole, whole_of}
+use Rattle.afdx_lawful.specs.Judged.{found_of, found_whole, found_with, too_late, waiting_of}
+use Rattle.afdx_lawful.specs.OneSide.{IsCame, StandOn, StandsOn, WaitsToo}
 use Rattle.afdx_lawful.specs.Partners.{Waiting, joined, may_pair, other, partner, waiting, without_first}
 use Rattle.afdx_lawful.specs.Rings.{all_as}
 use Rattle.afdx_lawful.specs.Sources.{Came, Source, on_side}
 use Rattle.afdx_lawful.specs.Tracks.{IsTrack}
 use Rattle.afdx_lawful.specs.declared.finding.SenderFinding.{SenderFinding}
+use Rattle.afdx_lawful.specs.declared.finding.SenderFinding.TheVariants.{Differs}
 use Rattle.afdx_lawful.specs.declared.one_side.OneSide.{OneSide}
+use Rattle.afdx_lawful.specs.declared.whole.Whole.{Whole}
 
 -- ---- sides
 
@@ -48,10 +52,20 @@ module _ {X : Type 0} (p : X → Bool) where
       by true rest h = refl
       by false rest h = rest h
 
+-- ---- at first
+
+cond_same : {X : Type 0} (b : Bool) (x : X) → (if b then x else x) ≡ x
+cond_same true x = refl
+cond_same false x = refl
+
+pub none_at_first : (s : Source) (side : Side) → waiting_of s side [] ≡ []
+unfolding waiting
+none_at_first s side = cond_same s.is_paired []
+
 -- ---- one more frame
 
 module _ (s : Source) (side : Side) (past : List Came) (x : Came) (on : x.side ≡ side) where
-  w : List Came
+  abbrev w : List Came
   w = whole_of past
 
   is_own : is_side side x.side ≡ true
@@ -66,6 +80,7 @@ module _ (s : Source) (side : Side) (past : List Came) (x : Came) (on : x.side �
 
   module _ (whole : is_whole x ≡ true) where
     more : whole_of (x ∷ past) ≡ x ∷ w
+    unfolding is_whole
     more = cond-true (is_whole x) (x ∷ w) w whole
 
     own_past : on_side side (whole_of (x ∷ past)) ≡ x ∷ on_side side w
@@ -98,14 +113,14 @@ module _ (s : Source) (side : Side) (past : List Came) (x : Came) (on : x.side �
           IsTrack s (x ∷ on_side side w) own'.track → own'.waiting ≡ own.waiting →
           StandOn s side (x ∷ past) own' others
       stand_single own others own' h track same = record {
-        own = record {
+        here = record {
           track = subst (λ (l : List Came). IsTrack s l own'.track) (sym own_past) track;
-          waiting = ap (λ ws. all_as side ws.items) same ∙ h.own.waiting
+          waiting = ap (λ ws. all_as side ws.items) same ∙ h.here.waiting
               ∙ none_wait side past ∙ sym (none_wait side (x ∷ past));
         };
-        others = record {
-          track = subst (λ (l : List Came). IsTrack s l others.track) (sym other_past) h.others.track;
-          waiting = h.others.waiting ∙ none_wait (other side) past ∙ sym (none_wait (other side) (x ∷ past));
+        there = record {
+          track = subst (λ (l : List Came). IsTrack s l others.track) (sym other_past) h.there.track;
+          waiting = h.there.waiting ∙ none_wait (other side) past ∙ sym (none_wait (other side) (x ∷ past));
         };
       }
 
@@ -115,7 +130,7 @@ module _ (s : Source) (side : Side) (past : List Came) (x : Came) (on : x.side �
       all_wait o xs = cond-true s.is_paired (waiting s o (whole_of xs)) [] paired
 
       others_then : waiting_of s (other side) (x ∷ past) ≡ without_first (may_pair s x) (waiting_of s (other side) past)
-      unfolding waiting
+      unfolding waiting without_first
       others_then =
           all_wait (other side) (x ∷ past) ∙ ap (waiting s (other side)) more
           ∙ cond-false (is_side (other side) x.side)
@@ -141,8 +156,8 @@ module _ (s : Source) (side : Side) (past : List Came) (x : Came) (on : x.side �
         others_stand : StandsOn s (other side) (x ∷ past) others'
         others_stand = record {
           track = subst (λ (t : _). IsTrack s (on_side (other side) (whole_of (x ∷ past))) t) (sym kept)
-              (subst (λ (l : List Came). IsTrack s l others.track) (sym other_past) h.others.track);
-          waiting = rest ∙ ap (without_first (may_pair s x)) h.others.waiting ∙ sym others_then;
+              (subst (λ (l : List Came). IsTrack s l others.track) (sym other_past) h.there.track);
+          waiting = rest ∙ ap (without_first (may_pair s x)) h.there.waiting ∙ sym others_then;
         }
 
         pub stand_paired : (y : Waiting) →
@@ -151,15 +166,15 @@ module _ (s : Source) (side : Side) (past : List Came) (x : Came) (on : x.side �
         stand_paired y found same =
             let some : list_any (may_pair s x) (waiting_of s (other side) past) ≡ true =
             any_some (may_pair s x) (waiting_of s (other side) past) y
-            (ap (partner s x) (sym h.others.waiting) ∙ found) in
+            (ap (partner s x) (sym h.there.waiting) ∙ found) in
             record {
-              own = record {
+              here = record {
                 track = subst (λ (l : List Came). IsTrack s l own'.track) (sym own_past) track;
-                waiting = ap (λ ws. all_as side ws.items) same ∙ h.own.waiting
+                waiting = ap (λ ws. all_as side ws.items) same ∙ h.here.waiting
                     ∙ sym (own_then ∙ cond-true (list_any (may_pair s x) (waiting_of s (other side) past))
                     (waiting_of s side past) _ some);
               };
-              others = others_stand;
+              there = others_stand;
             }
 
         pub stand_waiting : (q : Bool) → q ≡ is_empty (found_alone s (on_side side w) x) →
@@ -168,17 +183,101 @@ module _ (s : Source) (side : Side) (past : List Came) (x : Came) (on : x.side �
         stand_waiting q quiet none too =
             let no : list_any (may_pair s x) (waiting_of s (other side) past) ≡ false =
             any_none (may_pair s x) (waiting_of s (other side) past)
-            (ap (partner s x) (sym h.others.waiting) ∙ none) in
+            (ap (partner s x) (sym h.there.waiting) ∙ none) in
             let known : q ≡ is_empty (found_alone s (on_side x.side w) x) =
             quiet ∙ ap (λ (o : Side). is_empty (found_alone s (on_side o w) x)) (sym on) in
             record {
-              own = record {
+              here = record {
                 track = subst (λ (l : List Came). IsTrack s l own'.track) (sym own_past) track;
                 waiting = too
                     ∙ ap₂ (λ (a : List Waiting) (b : Bool). a ++ record { frame = x; is_quiet = b } ∷ [])
-                    h.own.waiting known
+                    h.here.waiting known
                     ∙ sym (own_then ∙ cond-false (list_any (may_pair s x) (waiting_of s (other side) past))
                     (waiting_of s side past) _ no);
               };
-              others = others_stand;
+              there = others_stand;
             }
+
+-- ---- a frame that came, as the code has it
+
+module _ (side : Side) (whole : Whole) (x : Came) (is : IsCame side whole x) where
+  pub came_whole : is_whole x ≡ true
+  unfolding is_whole
+  came_whole = ap (λ (b : List ℕ). is_frame (frame_of b)) is.bytes ∙ whole.whole
+
+  pub came_number : number_in x ≡ whole.number
+  unfolding number_in
+  came_number = ap number_of_frame is.bytes ∙ sym whole.numbered
+
+-- a copy that is the same, and what else is found with it
+pub with_same : (s : Source) (x : Came) (y : Waiting) (late : List SenderFinding) → is_copy x y.frame ≡ true →
+    late ≡ too_late s x y.frame → late ≡ found_with s x (Some y)
+with_same s x y late same is =
+    is ∙ sym (cond-true (is_copy x y.frame) (too_late s x y.frame) (Differs x.line ∷ []) same)
+
+-- ---- a damaged frame takes part in nothing
+
+module _ (s : Source) (past : List Came) (x : Came) (damaged : is_whole x ≡ false) where
+  none_more : whole_of (x ∷ past) ≡ whole_of past
+  none_more = cond-false (is_whole x) (x ∷ whole_of past) (whole_of past) damaged
+
+  stays : (side : Side) (one : OneSide) → StandsOn s side past one → StandsOn s side (x ∷ past) one
+  stays side one h = record {
+    track = subst (λ (l : List Came). IsTrack s (on_side side l) one.track) (sym none_more) h.track;
+    waiting = h.waiting
+        ∙ ap (λ (l : List Came). if s.is_paired then waiting s side l else []) (sym none_more);
+  }
+
+  pub stand_still : (side : Side) (own others : OneSide) → StandOn s side past own others →
+      StandOn s side (x ∷ past) own others
+  stand_still side own others h =
+      record { here = stays side own h.here; there = stays (other side) others h.there }
+
+-- the sides the other way round
+pub turned : (s : Source) (xs : List Came) (a b : OneSide) → StandOn s A xs a b → StandOn s B xs b a
+turned s xs a b h = record { here = h.there; there = h.here }
+
+pub turned_back : (s : Source) (xs : List Came) (a b : OneSide) → StandOn s B xs b a → StandOn s A xs a b
+turned_back s xs a b h = record { here = h.there; there = h.here }
+
+-- ---- what a look says of the number
+
+pub looked_some : (x : Came) (number : ℕ) → Some number ≡ (if is_whole x then Some (number_in x) else None) →
+    (is_whole x ≡ true) × (number ≡ number_in x)
+looked_some x number h = by (is_whole x) refl h
+  where
+    by : (b : Bool) → is_whole x ≡ b → Some number ≡ (if b then Some (number_in x) else None) →
+        (is_whole x ≡ true) × (number ≡ number_in x)
+    by true e h = (e, cc)
+    by false e h = absurd (cc h)
+
+pub looked_none : (x : Came) → None ≡ (if is_whole x then Some (number_in x) else None) → is_whole x ≡ false
+looked_none x h = by (is_whole x) refl h
+  where
+    by : (b : Bool) → is_whole x ≡ b → None ≡ (if b then Some (number_in x) else None) → is_whole x ≡ false
+    by true e h = absurd (cc h)
+    by false e h = e
+
+pub number_whole : (x : Came) (number : ℕ) → number ≡ number_in x → number ≡ number_of_frame x.bytes
+unfolding number_in
+number_whole x number h = h
+
+pub frame_whole : (x : Came) → is_whole x ≡ true → IsWholeFrame x.bytes
+unfolding is_whole
+frame_whole x h = h
+
+-- what holds of a result that is right
+pub on_ok : {T E : Type 0} (r : Result T E) (P Q : Type 0) → (P → Q) → OnOk r P → OnOk r Q
+on_ok (Ok t) P Q f h = f h
+on_ok (Err e) P Q f h = h
+
+-- ---- whether frames came before the recordings
+
+first_by : (s : Source) (o : Option ℕ) → first_number s o ≡ (if is_some o then None else Some 0)
+first_by s None = refl
+first_by s (Some n) = refl
+
+pub first_known : (s : Source) (o : Option ℕ) (b : Bool) → b ≡ is_some o → s.by.start ≡ o →
+    first_number s s.by.start ≡ (if b then None else Some 0)
+first_known s o b is same =
+    ap (first_number s) same ∙ first_by s o ∙ ap (λ (c : Bool). if c then None else Some 0) (sym is)

@@ -4,7 +4,7 @@ use Rattle.std.proofs.Common.{arith, drop, length, map, subst, take}
 use Rattle.std.specs.Prelude.{◌^◌, slice_get, option_map}
 use Rattle.std.proofs.lemmas.Option.{slice_get-map, slice_get_within}
 use Rattle.std.proofs.lemmas.List.{length-map}
-use Rattle.afdx_frame.specs.Grammar.{Built, Read, built_body, built_frame, built_length, source_of}
+use Rattle.afdx_frame.specs.Grammar.{Built, Read, built_body, built_frame, source_of}
 use Rattle.afdx_frame.specs.Layout.{unsealed}
 use Rattle.afdx_frame.specs.Regulation.{bag, jitter}
 use Rattle.afdx_frame.specs.Sealing.{AreBytes}
@@ -21,7 +21,7 @@ use Rattle.afdx_config.specs.Rows.{LinkRow, SystemRow}
 use Rattle.afdx_config.specs.SentList as sent
 use Rattle.afdx_config.proofs.NumberLemmas.{steps_low}
 use Rattle.afdx_lawful.specs.Flaws as flaws
-use Rattle.afdx_lawful.specs.TwoNetworks.{AreCopies, BuiltIsLawfulTwice, IsLawfulTwice, IsReadAs, SentTwice, at_once}
+use Rattle.afdx_lawful.specs.TwoNetworks.{AreCopies, BuiltIsLawfulTwice, IsReadAs, SentTwice, at_once}
 use Rattle.afdx_lawful.specs.TwoNetworks.{frame_on, time_on}
 use Rattle.afdx_lawful.proofs.CopyLemmas.{common_sealed}
 
@@ -37,7 +37,7 @@ address_built a number side p = refl
 module _ (s : SystemRow) (l : LinkRow) (messages : List sent.Message) (stream : List Sending)
     (lawful : IsLawfulStream s l messages stream) (k : ℕ) (x : sent.Sent) (y : Sending)
     (sent-is : sent.sent_at messages k ≡ Some x) (at : slice_get stream k ≡ Some y) where
-  address : Address
+  abbrev address : Address
   address = sent.address_of s l x.message
 
   is_sent : IsSent s l x y
@@ -88,7 +88,7 @@ module _ (s : SystemRow) (l : LinkRow) (messages : List sent.Message) (stream : 
         fits = length-on side is_sent;
       }
 
-  message_on : Side → List ℕ
+  abbrev message_on : Side → List ℕ
   message_on side =
       unsealed l.vl (source_of address side) 0x0800 (built_body address x.message.payload) x.number
 
@@ -107,10 +107,10 @@ module _ (s : SystemRow) (l : LinkRow) (messages : List sent.Message) (stream : 
 
 module _ (s : SystemRow) (l : LinkRow) (messages : List sent.Message) (stream : List Sending)
     (lawful : IsLawfulStream s l messages stream) where
-  gap : ℕ
+  abbrev gap : ℕ
   gap = bag (regulation_of_link l)
 
-  shift : ℕ
+  abbrev shift : ℕ
   shift = jitter (regulation_of_link l)
 
   released : (k : ℕ) (y : Sending) → slice_get stream k ≡ Some y → (r : ℕ) × (slice_get lawful.moments k ≡ Some r)
@@ -156,7 +156,7 @@ module _ {X Y : Type 0} (f : X → Y) (xs : List X) where
 
 pub built_lawful_twice : BuiltIsLawfulTwice
 built_lawful_twice s l messages stream lawful = record {
-  count = lawful.message_count ∙ sym (length-map at_once stream);
+  count = lawful.message_count ∙ sym (length-map stream at_once);
   spaced = λ side j d y z at later.
       let x = made at_once stream j y at in
       let w = made at_once stream (j + d) z later in

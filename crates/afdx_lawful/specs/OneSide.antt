@@ -4,7 +4,7 @@ use Rattle.afdx_frame.specs.Parts.{bytes_of}
 use Rattle.afdx_frame.specs.declared.link.Side.{Side}
 use Rattle.afdx_lawful.specs.Flaws.{whole_of}
 use Rattle.afdx_lawful.specs.Judged.{waiting_of}
-use Rattle.afdx_lawful.specs.Partners.{Waiting, other}
+use Rattle.afdx_lawful.specs.Partners.{other}
 use Rattle.afdx_lawful.specs.Rings.{all_as}
 use Rattle.afdx_lawful.specs.Sources.{Came, Source, on_side}
 use Rattle.afdx_lawful.specs.Tracks.{IsTrack, told_alone}
@@ -14,14 +14,14 @@ use Rattle.afdx_lawful.specs.declared.one_side.Copied.{Copied}
 use Rattle.afdx_lawful.specs.declared.one_side.Copied.TheVariants.{Well, Differs, Late}
 use Rattle.afdx_lawful.specs.declared.one_side.HeardFrame.{HeardFrame}
 use Rattle.afdx_lawful.specs.declared.one_side.OneSide.{OneSide}
-use Rattle.afdx_lawful.specs.declared.one_side.Whole.{Whole}
 use Rattle.afdx_lawful.specs.declared.waits.Waits.{Waits}
+use Rattle.afdx_lawful.specs.declared.whole.Whole.{Whole}
 
 -- it came on this side
 pub record IsCame (side : Side) (w : Whole) (x : Came) : Type 0 where
   pub line : x.line ≡ w.line
   pub time : x.time ≡ w.time
-  pub side : x.side ≡ side
+  pub on : x.side ≡ side
   pub bytes : x.bytes ≡ bytes_of w.frame
 
 -- what is told of a frame of this line by its copy
@@ -47,5 +47,5 @@ pub record StandsOn (s : Source) (side : Side) (xs : List Came) (one : OneSide) 
 -- and of both, this side first
 pub record StandOn (s : Source) (side : Side) (xs : List Came) (own others : OneSide)
     : Type 0 where
-  pub own : StandsOn s side xs own
-  pub others : StandsOn s (other side) xs others
+  pub here : StandsOn s side xs own
+  pub there : StandsOn s (other side) xs others

@@ -15,11 +15,11 @@ use Rattle.afdx_lawful.specs.declared.ways.Apart.{Apart}
 -- apart, and both networks are seen, or one
 pub record IsOf (s : Source) (rule : LinkRule) (system : ℕ) (by : Leeway) (apart : Apart)
     (is_paired : Bool) : Type 0 where
-  pub rule : s.rule ≡ rule_of rule
-  pub system : s.system ≡ system
-  pub by : s.by ≡ leeway_of by
-  pub apart : IsApart s apart
-  pub paired : s.is_paired ≡ is_paired
+  pub of_rule : s.rule ≡ rule_of rule
+  pub from : s.system ≡ system
+  pub leeway : s.by ≡ leeway_of by
+  pub copies : IsApart s apart
+  pub sides : s.is_paired ≡ is_paired
 
 -- these frames came, the newest first
 pub record StandsFor (s : Source) (xs : List Came) (sender : JudgedSource) : Type 0 where

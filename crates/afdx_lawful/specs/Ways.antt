@@ -1,19 +1,10 @@
 -- What the code keeps of the ways of a source's link.
-use Rattle.std.specs.Prelude.{◌≡◌, ℕ, ◌≤◌, map}
+use Rattle.std.specs.Prelude.{◌≡◌, ℕ, map}
 use Rattle.afdx_lawful.specs.Limits.{AreLimits}
 use Rattle.afdx_lawful.specs.Sources.{Source, Way}
 use Rattle.afdx_lawful.specs.declared.ways.Apart.{Apart}
 use Rattle.afdx_lawful.specs.declared.ways.SourceTerms.{SourceTerms}
 use Rattle.afdx_lawful.specs.declared.ways.SystemWay.{SystemWay}
-
--- the greatest skew, and the greatest distance that can be given, in ns
-abbrev pub most_apart : ℕ
-most_apart = 100000000
-
--- a skew, and how long a byte lasts on all lines of a way
-pub record IsWayInRange (skew byte_ns : ℕ) : Type 0 where
-  pub skews : skew ≤ most_apart
-  pub bytes : byte_ns ≤ 19200
 
 abbrev pub is_way : ℕ → ℕ → ℕ → Way
 is_way skew latency byte_ns = record { skew = skew; latency = latency; byte_ns = byte_ns }

@@ -17,6 +17,7 @@ mod sender;
 mod track;
 mod waits;
 mod ways;
+mod whole;
 
 pub use finding::{Flaw, SenderFinding};
 pub use ways::SystemWay;

@@ -1,10 +1,8 @@
 //! The frames of a source on one network, and one more of them.
 
 ghost use Rattle.std.specs.Prelude.{◌≡◌, ◌≤◌, List, ◌∷◌, IfOk, OnOk, Some};
-ghost use Rattle.afdx_frame.specs.Parts.{bytes_of, number_of_frame};
-ghost use Rattle.afdx_frame.specs.Times.{latest_listed};
 ghost use Rattle.afdx_frame.specs.declared.link.Side.{Side};
-ghost use Rattle.afdx_lawful.specs.Flaws.{IsWholeFrame, flaw_of};
+ghost use Rattle.afdx_lawful.specs.Flaws.{flaw_of};
 ghost use Rattle.afdx_lawful.specs.Judged.{found_of, found_with};
 ghost use Rattle.afdx_lawful.specs.OneSide.{IsCame, StandOn, StandsOn, WaitsToo, told_copy, told_heard};
 ghost use Rattle.afdx_lawful.specs.Rings.{waiting_as};
@@ -18,8 +16,8 @@ use crate::partners::take_partner;
 use crate::track::{Alone, Track};
 use crate::waits::Waits;
 use crate::ways::SourceTerms;
+use crate::whole::Whole;
 use afdx_conform::{CheckedBytes, Spare};
-use afdx_frame::Checked;
 use std::alloc::{AllocError, Global};
 
 /// What is found of a frame by its copy on the other network.
@@ -31,18 +29,6 @@ pub(crate) enum Copied {
     Differs,
     /// It came so many ns too late.
     Late(u64),
-}
-
-/// A frame that isn't damaged: its line, its time in ns, its bytes, and its sequence number.
-#[derive(Clone, Copy, Debug)]
-pub(crate) struct Whole<'a> {
-    pub line: u64,
-    pub time: u64,
-    pub frame: Checked<'a>,
-    pub number: u8,
-    pub ghost listed: { time ≤ latest_listed },
-    pub ghost numbered: { number ≡ number_of_frame (bytes_of frame) },
-    pub ghost whole: { IsWholeFrame (bytes_of frame) },
 }
 
 /// What is found of a frame when it comes.
@@ -77,7 +63,7 @@ impl HeardFrame {
 fn compare(terms: &SourceTerms, whole: Whole<'_>, partner: &Waits) -> Copied
     ensures { (s : Terms) (side by : Side) (x : Came) → AreTerms s terms.now →
         IsCame side whole.entry x →
-        told_copy whole.line result ≡ found_with s x (Some (waiting_as by partner.now)) }
+        told_copy whole.entry.line result ≡ found_with s x (Some (waiting_as by partner.now)) }
 {
     if !is_copy(whole.frame, partner.bytes.frame()) {
         return Copied::Differs;
@@ -131,7 +117,8 @@ impl OneSide {
             number: whole.number,
             bytes,
             is_quiet,
-        })
+        })?;
+        Ok(())
     }
 }
 
@@ -148,7 +135,7 @@ pub(crate) fn hear(
     ensures found { (s : Terms) (side : Side) (past : List Came) (x : Came) →
         AreTerms s terms.now → IsCame side whole.entry x → flaw ≡ flaw_of s x →
         StandOn s side past own.old other.old →
-        IfOk result (λ heard. told_heard whole.line heard ≡ found_of s past x) }
+        IfOk result (λ heard. told_heard whole.entry.line heard ≡ found_of s past x) }
     ensures stand { (s : Terms) (side : Side) (past : List Came) (x : Came) →
         AreTerms s terms.now → IsCame side whole.entry x → flaw ≡ flaw_of s x →
         StandOn s side past own.old other.old →

@@ -10,8 +10,9 @@ ghost use Rattle.afdx_lawful.specs.Sources.{Came, Source as Terms, came_with};
 
 use crate::flaws::{Looked, look};
 use crate::limits::SenderLimits;
-use crate::one_side::{HeardFrame, OneSide, Whole, hear};
+use crate::one_side::{HeardFrame, OneSide, hear};
 use crate::ways::{Apart, SourceTerms};
+use crate::whole::Whole;
 use afdx_conform::{Leeway, Spare};
 use afdx_frame::{Checked, Side};
 use afdx_police::LinkRule;

@@ -1,10 +1,7 @@
 //! By how much later the copy of a source's frame may be sent.
 
-ghost use Rattle.std.specs.Prelude.{◌≡◌, ◌≤◌, ℕ, List, length, map};
-ghost use Rattle.afdx_lawful.specs.Limits.{AreLimits};
-ghost use Rattle.afdx_lawful.specs.Sources.{Came, Source as Terms, apart as apart_of};
-ghost use Rattle.afdx_lawful.specs.Sources.{left_by as left_of, least_left as least_of};
-ghost use Rattle.afdx_lawful.specs.Ways.{IsApart, IsWayInRange, most_apart, way_of};
+ghost use Rattle.std.specs.Prelude.{◌≡◌, ◌≤◌};
+ghost use Rattle.afdx_lawful.specs.Ranges.{IsWayInRange, given_ns, most_apart};
 
 use crate::limits::SenderLimits;
 
@@ -25,8 +22,9 @@ pub struct SystemWay {
 }
 
 impl SystemWay {
-    ghost use Rattle.std.specs.Prelude.{IfNone, IfSome, ◌<◌, ◌⊎◌};
-    ghost use Rattle.afdx_lawful.specs.Ways.{is_way};
+    ghost use Rattle.std.specs.Prelude.{IfNone, IfSome, ◌<◌, ◌⊎◌, map};
+    ghost use Rattle.afdx_lawful.specs.Sources.{left_by as left_of, least_left as least_of};
+    ghost use Rattle.afdx_lawful.specs.Ways.{is_way, way_of};
 
     /// One of a skew of at most 100 ms, over lines on which a byte lasts at most 19,200 ns in all;
     /// else none.
@@ -54,19 +52,19 @@ impl SystemWay {
         let wire = (bytes + 8) * self.byte_ns;
         self.skew.saturating_sub(self.latency.saturating_sub(wire))
     }
-}
 
-/// The least by all ways of a link.
-#[tactic(auto, unfolding(crate::specs::Sources::least_left))]
-fn least_left(ways: &[SystemWay], bytes: u64) -> u64
-    requires { bytes ≤ 1518 }
-    ensures least { result ≡ least_of (map way_of ways.now) bytes }
-    ensures small { result ≤ most_apart }
-{
-    match ways {
-        [] => 0,
-        [way] => way.left_by(bytes),
-        [way, rest @ ..] => way.left_by(bytes).min(least_left(rest, bytes)),
+    /// The least by all ways of a link.
+    #[tactic(auto, unfolding(crate::specs::Sources::least_left))]
+    fn least_left(ways: &[SystemWay], bytes: u64) -> u64
+        requires { bytes ≤ 1518 }
+        ensures least { result ≡ least_of (map way_of ways.now) bytes }
+        ensures small { result ≤ most_apart }
+    {
+        match ways {
+            [] => 0,
+            [way] => way.left_by(bytes),
+            [way, rest @ ..] => way.left_by(bytes).min(SystemWay::least_left(rest, bytes)),
+        }
     }
 }
 
@@ -76,11 +74,14 @@ fn least_left(ways: &[SystemWay], bytes: u64) -> u64
 pub struct Apart {
     given: Option<u64>,
     ways: Vec<SystemWay>,
-    ghost near: { IfSome given (λ ns. ns ≤ most_apart) },
+    ghost near: { given_ns given ≤ most_apart },
 }
 
 impl Apart {
-    ghost use Rattle.std.specs.Prelude.{IfSome};
+    ghost use Rattle.std.specs.Prelude.{length};
+    ghost use Rattle.afdx_lawful.specs.Limits.{AreLimits};
+    ghost use Rattle.afdx_lawful.specs.Sources.{Came, Source as Terms, apart as apart_of};
+    ghost use Rattle.afdx_lawful.specs.Ways.{IsApart};
 
     /// The same by a recorder's clock, of a frame of so many bytes.
     pub(crate) fn of(&self, limits: &SenderLimits, bytes: u64) -> u64
@@ -91,7 +92,7 @@ impl Apart {
     {
         let ns = match self.given {
             Some(ns) => ns,
-            None => least_left(self.ways.as_slice(), bytes),
+            None => SystemWay::least_left(self.ways.as_slice(), bytes),
         };
         limits.longest(ns)
     }

@@ -1,0 +1,10 @@
+use Rattle.std.proofs.Common.{ap, sym, ◌∙◌}
+use Rattle.afdx_lawful.specs.Rings.{all_as}
+use Rattle.afdx_lawful.proofs.OneSideLemmas.{none_at_first}
+use Rattle.afdx_lawful.proofs.one_side.OneSide.new.Goals as goal
+
+pub returns : goal.returns
+returns c s side first = record {
+  track = c.new.ensures s first;
+  waiting = ap (λ ws. all_as side ws) c.new-2.ensures.items ∙ sym (none_at_first s side);
+}
