@@ -17,7 +17,8 @@ use Rattle.afdx_input_sources.specs.declared.ahead.AtHead.TheVariants as at
 use Rattle.afdx_input_sources.specs.declared.merged.Nth.TheVariants.{First, Second}
 use Rattle.afdx_input_runs.specs.declared.seen.Seen.{Seen}
 use Rattle.afdx_input_runs.specs.declared.two_lists.TwoLists.{TwoLists}
-use Rattle.afdx_input_runs.specs.TwoListsSource.{IsJoined, IsJoinedToEnd, StopsJoining, role_of}
+use Rattle.afdx_input_runs.specs.TwoListsSource.{IsJoined, IsJoinedToEnd, StopsJoining}
+use Rattle.afdx_input_runs.specs.Joining.{role_of}
 use Rattle.afdx_input_runs.proofs.FaultLemmas.{named-read}
 use Rattle.afdx_input_runs.proofs.PairRunLemmas.{either-false, either-left, either-right}
 use Rattle.afdx_input_runs.proofs.HeadedLemmas.{Asked, FrameList, Given, GivenAll, StoppedList, ahead-asked, start-one}

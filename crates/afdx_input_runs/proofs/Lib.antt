@@ -9,7 +9,6 @@ pub mod LookLemmas
 pub mod ArrivalsLemmas
 pub mod TookLemmas
 pub mod EnteringLemmas
-pub mod JoinLemmas
 pub mod TwoListsLemmas
 pub mod ListedLemmas
 pub mod FaultLemmas

@@ -21,7 +21,7 @@ use Rattle.afdx_input_sources.specs.declared.number.Number.{Number}
 use Rattle.afdx_input_sources.specs.declared.timed_pair.TimedPair.{TimedPair}
 use Rattle.afdx_input_sources.specs.Becoming.{options_of}
 use Rattle.afdx_input_sources.specs.Claims.{ports_of}
-use Rattle.afdx_input_sources.specs.Merging.{Coming, Merged, merge, merged}
+use Rattle.afdx_input_sources.specs.Merging.{Merged, merge}
 use Rattle.afdx_input_sources.specs.NumberLines.{Lines, NumberFollows, comes_at, number_order}
 use Rattle.afdx_input_sources.specs.MergedSource.{CameFirst, Front, IsAhead, IsAheadBy, OfTwo, StopsMerging, Unsought}
 use Rattle.afdx_input_sources.specs.MergedSource.{front_by, front_of, items_of, latest_of_both, taken_of}
@@ -30,15 +30,16 @@ use Rattle.afdx_input_sources.specs.OrderedRecording.{OrderedRecording, IsSetInO
 use Rattle.afdx_input_sources.specs.OrderedRecording.{number_taken}
 use Rattle.afdx_input_sources.specs.Ordering.{Sequence}
 use Rattle.afdx_input_sources.specs.Sequences.{Numbers}
-use Rattle.afdx_input_sources.specs.Taking.{Taken, AreCutOffAtOne, coming_of, coming_until_read, fault_of, late_of_both}
+use Rattle.afdx_input_sources.specs.Taking.{ComingNumbers, Taken, AreCutOffAtOne, both_numbers, by_moment, coming_of}
+use Rattle.afdx_input_sources.specs.Taking.{coming_until_read, fault_of, late_of_both}
 use Rattle.afdx_input_sources.specs.Taking.{sequence_of_bytes, side_of, taken_of_both, timed_of_both}
 use Rattle.afdx_input_sources.specs.TimedPairSource.{HasPaired, HasPairedAll, HasStoppedPairing, IsPaired, fault_named, network_of}
 use Rattle.afdx_input_sources.specs.Timing.{Timed, timed}
 use Rattle.afdx_input_sources.proofs.CameLemmas.{CanCome, IsTimed, ahead-timed, reverse-taken}
 use Rattle.afdx_input_sources.proofs.OrderedKnownLemmas.{given-first, ended-all, stopped-fault, stopped-read}
 use Rattle.afdx_input_sources.proofs.OrderedKnownLemmas.{CanStop, stopped-memory, can-stop, taken-sound}
-use Rattle.afdx_input_sources.proofs.MergeLemmas.{EndsIn, merge-extends, number-itself, numbers-end, numbers-go}
-use Rattle.afdx_input_sources.proofs.MergeLemmas.{numbers-stop-a, numbers-stop-b}
+use Rattle.afdx_input_sources.proofs.MergeLemmas.{EndsIn, merge-extends}
+use Rattle.afdx_input_sources.proofs.PairedLemmas.{number-itself, numbers-end, numbers-go, numbers-stop-a, numbers-stop-b}
 use Rattle.afdx_input_runs.specs.Over.{AreAllLines, AreFirstLines, StopsBehindLines}
 use Rattle.afdx_input_sources.proofs.TimingLemmas.{timed-extends, timed-stopped}
 
@@ -156,28 +157,28 @@ module _ (said : Option ℕ) (past : Numbers) (lines : Lines) where
   Timed-so fault = timed late_of_both said past ≡ record { lines = lines; fault = fault }
 
   -- a run takes these numbers and then that fault
-  up-to : (a b : Coming) (fault : Option RunFault) → Timed-so None
-      → merged a b ≡ record { numbers = past; fault = fault }
+  up-to : (a b : ComingNumbers) (fault : Option RunFault) → Timed-so None
+      → both_numbers a b ≡ record { items = past; fault = fault }
       → timed_of_both said a b ≡ record { lines = lines; fault = fault }
   up-to a b fault t m = rw (m, t) refl
 
   -- it takes these first
-  first-lines : (a b : Coming) → Timed-so None → EndsIn past (merged a b).numbers
+  first-lines : (a b : ComingNumbers) → Timed-so None → EndsIn past (both_numbers a b).items
       → (more : Lines) × ((timed_of_both said a b).lines ≡ more ++ lines)
   first-lines a b t (later, e) =
       let m = timed-extends late_of_both said past lines None t later in
       (m.0, ap (λ (xs : Numbers). (timed late_of_both said xs).lines) e ∙ m.1)
 
   -- the newest is too late
-  late-lines : (a b : Coming) (fault : RunFault) → Timed-so (Some fault) → EndsIn past (merged a b).numbers
+  late-lines : (a b : ComingNumbers) (fault : RunFault) → Timed-so (Some fault) → EndsIn past (both_numbers a b).items
       → timed_of_both said a b ≡ record { lines = lines; fault = Some fault }
   late-lines a b fault t (later, e) =
       let s = timed-stopped late_of_both said past lines fault t later in
-      let is : timed late_of_both said (merged a b).numbers ≡ record { lines = lines; fault = Some fault } =
+      let is : timed late_of_both said (both_numbers a b).items ≡ record { lines = lines; fault = Some fault } =
       ap (timed late_of_both said) e ∙ s in
       rw is refl
 
-both-coming : (a b c d : Coming) → a ≡ c → b ≡ d → merged a b ≡ merged c d
+both-coming : (a b c d : ComingNumbers) → a ≡ c → b ≡ d → both_numbers a b ≡ both_numbers c d
 both-coming a b c d e f = rw (e, f) refl
 
 module _ {R : Type 0} (remaining : R → Option (List ℕ)) (start inputs : BySide (Watched R))
@@ -216,13 +217,13 @@ module _ {R : Type 0} (remaining : R → Option (List ℕ)) (start inputs : BySi
       (HasStoppedTaking remaining) start source inputs lines
       fault
 
-  abbrev Next : List (Item Number) → Option RunFault → Coming
+  abbrev Next : List (Item Number) → Option RunFault → ComingNumbers
   Next next fault = record { next = next; fault = fault }
 
-  abbrev Coming-a : Coming
+  abbrev Coming-a : ComingNumbers
   Coming-a = coming_of A (Of-a bytes_a)
 
-  abbrev Coming-b : Coming
+  abbrev Coming-b : ComingNumbers
   Coming-b = coming_of B (Of-b bytes_b)
 
   abbrev Front-a : Front Number
@@ -254,16 +255,16 @@ module _ {R : Type 0} (remaining : R → Option (List ℕ)) (start inputs : BySi
       (taken_of Second past) refl h
 
   -- these numbers come first
-  first-by : (past : List (OfTwo Number)) (a b : Coming) (xs ys : Numbers) (fx fy : Option RunFault) → Coming-a ≡ a
-      → Coming-b ≡ b → merged a b ≡ merge (items_of past) xs fx ys fy
-      → EndsIn (items_of past) (merged Coming-a Coming-b).numbers
+  first-by : (past : List (OfTwo Number)) (a b : ComingNumbers) (xs ys : Numbers) (fx fy : Option RunFault) → Coming-a ≡ a
+      → Coming-b ≡ b → both_numbers a b ≡ merge by_moment (items_of past) xs fx ys fy
+      → EndsIn (items_of past) (both_numbers Coming-a Coming-b).items
   first-by past a b xs ys fx fy is_a is_b go =
-      let e = merge-extends (items_of past) xs fx ys fy in
-      (e.0, ap (λ (m : Merged). m.numbers) (both-coming _ _ _ _ is_a is_b ∙ go) ∙ e.1)
+      let e = merge-extends by_moment (items_of past) xs fx ys fy in
+      (e.0, ap (λ (m : Merged (Item Number)). m.items) (both-coming _ _ _ _ is_a is_b ∙ go) ∙ e.1)
 
   paired-first : (past : List (OfTwo Number))
       → IsPaired number_taken (HasTaken remaining) (HasTakenAll remaining) start source inputs past
-      → EndsIn (items_of past) (merged Coming-a Coming-b).numbers
+      → EndsIn (items_of past) (both_numbers Coming-a Coming-b).items
   paired-first past h =
       let a = comes-a (latest_of_both comes_at past) past h.first in
       let b = comes-b (latest_of_both comes_at past) past h.second in
@@ -302,7 +303,7 @@ module _ {R : Type 0} (remaining : R → Option (List ℕ)) (start inputs : BySi
       other-a fault h = can-stop remaining start.a inputs.a source.pair.first.source (taken_of First past) fault h
 
       -- with this fault behind what comes
-      up-to-a : (a : Coming) (fault : RunFault) → a ≡ Next (reverse (taken_of First past)) (Some fault)
+      up-to-a : (a : ComingNumbers) (fault : RunFault) → a ≡ Next (reverse (taken_of First past)) (Some fault)
           → timed_of_both Said a Coming-b ≡ record { lines = lines; fault = Some fault }
       up-to-a a fault is =
           up-to Said (items_of past) lines a Coming-b (Some fault) t
@@ -352,7 +353,7 @@ module _ {R : Type 0} (remaining : R → Option (List ℕ)) (start inputs : BySi
       other-b : (fault : RunFault) → Stopped-b fault → CanStop fault
       other-b fault h = can-stop remaining start.b inputs.b source.pair.second.source (taken_of Second past) fault h
 
-      up-to-b : (b : Coming) (fault : RunFault) → b ≡ Next (reverse (taken_of Second past)) (Some fault)
+      up-to-b : (b : ComingNumbers) (fault : RunFault) → b ≡ Next (reverse (taken_of Second past)) (Some fault)
           → timed_of_both Said Coming-a b ≡ record { lines = lines; fault = Some fault }
       up-to-b b fault is =
           up-to Said (items_of past) lines Coming-a b (Some fault) t

@@ -186,9 +186,9 @@ ordered-go-on (x ∷ past) h k = (behind-latest x past h.0, k.0, ordered-go-on p
 
 module _ (bytes-came bytes-left : List ℕ) (came left : Coming) (first-came : ComesFirst bytes-came came.next)
     (first-left : ComesFirst bytes-left left.next) where
-  pub joined-go-on : GoOn (joined came left).frames
+  pub joined-go-on : GoOn (joined came left).items
   joined-go-on =
-      let all = (joined came left).frames in
+      let all = (joined came left).items in
       let a = each-list Came came left in
       let b = each-list Left came left in
       ordered-go-on all
@@ -202,13 +202,13 @@ module _ (bytes-came bytes-left : List ℕ) (came left : Coming) (first-came : C
 module _ {R : Type 0} (remaining : R → Option (List ℕ)) (bytes : List ℕ × List ℕ) (rest : ByRole (Watched R))
     (past : List Frame) where
   are-listed : (came left : Coming) → AreListed remaining bytes.0 bytes.1 rest came left
-      → GoOn (joined came left).frames
+      → GoOn (joined came left).items
   are-listed came left (h, k) =
       joined-go-on bytes.0 bytes.1 came left (listed-first Came bytes.0 came.next came.fault h)
       (listed-first Left bytes.1 left.next left.fault k)
 
   is-cut : (came left : Coming) → OneIsCutOff remaining bytes.0 bytes.1 rest came left
-      → GoOn (joined came left).frames
+      → GoOn (joined came left).items
   is-cut came left (inl (failed, c, k)) =
       joined-go-on bytes.0 bytes.1 came left (record { lines = c.lines; next_is = c.next_is })
       (listed-first Left bytes.1 left.next left.fault k)
@@ -218,17 +218,17 @@ module _ {R : Type 0} (remaining : R → Option (List ℕ)) (bytes : List ℕ ×
 
   lists-stop-go-on : (fault : RunFault) (cause : Cause) → StopsListed remaining bytes rest past fault cause → GoOn past
   lists-stop-go-on fault FailedRead (came, left, c, e) =
-      subst GoOn (ap (λ (j : Joined). j.frames) e) (is-cut came left c)
+      subst GoOn (ap (λ (j : Joined). j.items) e) (is-cut came left c)
   lists-stop-go-on fault FailedWrite (came, left, h, later, e) =
       first-go-on later past (subst GoOn e (are-listed came left h))
   lists-stop-go-on fault NoMemory (came, left, h, later, e) =
       first-go-on later past (subst GoOn e (are-listed came left h))
   lists-stop-go-on fault BadInput (came, left, h, e) =
-      subst GoOn (ap (λ (j : Joined). j.frames) e) (are-listed came left h)
+      subst GoOn (ap (λ (j : Joined). j.items) e) (are-listed came left h)
 
   pub lists-go-on : (r : Result SeenCount RunFault) → TakesLists remaining bytes rest past r → GoOn past
   lists-go-on (Ok (count.Lists lines)) h =
-      subst GoOn (ap (λ (j : Joined). j.frames) h.frames_are) (are-listed h.came h.left h.are_listed)
+      subst GoOn (ap (λ (j : Joined). j.items) h.frames_are) (are-listed h.came h.left h.are_listed)
   lists-go-on (Ok (count.Recorded tally)) h = absurd h
   lists-go-on (Ok (count.Both tallies)) h = absurd h
   lists-go-on (Err fault) h = lists-stop-go-on fault (cause_of fault) h

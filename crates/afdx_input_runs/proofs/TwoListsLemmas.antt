@@ -1,5 +1,5 @@
 -- Two lists that are read at once: a frame of both may follow, and what comes of both.
-use Rattle.std.proofs.Common.{◌≡◌, ℕ, List, [], ◌∷◌, ◌++◌, length, map, nat_lt, reverse, refl, ap, ◌∙◌, arith}
+use Rattle.std.proofs.Common.{◌≡◌, ℕ, List, [], ◌∷◌, ◌++◌, length, map, reverse, refl, arith}
 use Rattle.std.proofs.Common.{Option, Some, None}
 use Rattle.std.proofs.lemmas.List.{length-map}
 use Rattle.afdx_police.specs.Arrival.{Arrival}
@@ -9,14 +9,12 @@ use Rattle.afdx_input_sources.specs.Engine.{Item}
 use Rattle.afdx_input_sources.specs.Items.{CanFollow, arrivals, heading_order}
 use Rattle.afdx_input_sources.specs.MergedSource.{CameFirst, FollowsBoth, Front, Gone, OfTwo, Unsought}
 use Rattle.afdx_input_sources.specs.MergedSource.{items_of, latest_by, taken_of}
-use Rattle.afdx_input_sources.specs.declared.merged.Nth.{Nth}
+use Rattle.afdx_input_sources.specs.Merging.{merge, merged_as}
 use Rattle.afdx_input_sources.specs.declared.merged.Nth.TheVariants.{First, Second}
-use Rattle.afdx_input_sources.proofs.CameLemmas.{CanCome, IsTimed, Sees, Steps, came, ended, stops-first, stops-second}
-use Rattle.afdx_input_runs.specs.Joining.{Frame, arrival_of, frame_with, frames_of, join, joined_as}
+use Rattle.afdx_input_sources.proofs.CameLemmas.{CanCome, IsTimed, Sees, came, ended, stops-first, stops-second}
+use Rattle.afdx_input_runs.specs.Joining.{Frame, arrival_of, by_frame_time, frames_of}
 use Rattle.afdx_input_runs.specs.Seeing.{SeenFollows, latest_seen}
-use Rattle.afdx_input_runs.specs.TwoListsSource.{role_of, seen_of}
-use Rattle.afdx_input_runs.proofs.JoinLemmas.{join-came, join-came-alone, join-end, join-fault-came, join-fault-left}
-use Rattle.afdx_input_runs.proofs.JoinLemmas.{join-left, join-left-alone}
+use Rattle.afdx_input_runs.specs.TwoListsSource.{seen_of}
 
 abbrev pub time-of : Heading → Option ℕ
 time-of heading = Some heading.time
@@ -42,28 +40,12 @@ seen-follows past x h =
 
 -- ---- what comes of both
 
-abbrev frame-as : Nth → Item Heading → Frame
-frame-as n x = frame_with (role_of n) (arrival_of x)
-
 abbrev both-frames : List (OfTwo Heading) → List Frame
 both-frames past = frames_of (map seen_of past)
 
-list-steps : Steps time-of arrival_of frame-as join joined_as
-list-steps = record {
-  first = λ past x y xs ys fx fy t is later.
-      let at_t : x.head.time ≡ t = cc in
-      join-came past (arrival_of x) (arrival_of y) xs ys fx fy (ap (nat_lt y.head.time) at_t ∙ later);
-  first_alone = λ past x xs fx t is. join-came-alone past (arrival_of x) xs fx;
-  at_once = λ past x xs ys fx fy is. absurd (cc);
-  second = λ past x y xs ys fx fy e. join-left past (arrival_of x) (arrival_of y) xs ys fx fy e;
-  second_alone = λ past y ys fy. join-left-alone past (arrival_of y) ys fy;
-  fault_first = λ past fault ys fy. join-fault-came past fault ys fy;
-  fault_second = λ past x xs fx fault t is. join-fault-left past (arrival_of x) xs fx fault;
-  end = λ past fault. join-end past fault;
-}
-
-frames-seen : Sees arrival_of frame-as arrivals both-frames
+frames-seen : Sees by_frame_time time-of arrival_of arrivals both-frames
 frames-seen = record {
+  timed = λ x. refl;
   none = refl;
   more = λ x xs. refl;
   none_given = refl;
@@ -73,26 +55,28 @@ frames-seen = record {
 -- these frames come first, and then what still comes
 pub lists-go : (past : List (OfTwo Heading)) (x y : Front Heading) → CameFirst time-of past x y
     → (xs ys : List Arrival) (fx fy : Option RunFault) → CanCome arrival_of x xs fx → CanCome arrival_of y ys fy
-    → join [] (reverse (arrivals (taken_of First past)) ++ xs) fx (reverse (arrivals (taken_of Second past)) ++ ys) fy
-    ≡ join (frames_of (map seen_of past)) xs fx ys fy
-lists-go = came time-of arrival_of frame-as join joined_as list-steps arrivals both-frames frames-seen
+    → merge by_frame_time [] (reverse (arrivals (taken_of First past)) ++ xs) fx
+    (reverse (arrivals (taken_of Second past)) ++ ys) fy
+    ≡ merge by_frame_time (frames_of (map seen_of past)) xs fx ys fy
+lists-go = came by_frame_time time-of arrival_of arrivals both-frames frames-seen
 
 -- the list of what came in stopped, or that of what left, or both ended
 pub lists-stop-came : (past : List (OfTwo Heading)) (y : Front Heading) → CameFirst time-of past Unsought y
     → (ys : List Arrival) (fy : Option RunFault) (fault : RunFault) → CanCome arrival_of y ys fy
-    → join [] (reverse (arrivals (taken_of First past))) (Some fault)
+    → merge by_frame_time [] (reverse (arrivals (taken_of First past))) (Some fault)
     (reverse (arrivals (taken_of Second past)) ++ ys) fy
-    ≡ joined_as (frames_of (map seen_of past)) (Some fault)
-lists-stop-came = stops-first time-of arrival_of frame-as join joined_as list-steps arrivals both-frames frames-seen
+    ≡ merged_as (frames_of (map seen_of past)) (Some fault)
+lists-stop-came = stops-first by_frame_time time-of arrival_of arrivals both-frames frames-seen
 
 pub lists-stop-left : (past : List (OfTwo Heading)) (x : Front Heading) → CameFirst time-of past x Unsought
     → IsTimed time-of x → (xs : List Arrival) (fx : Option RunFault) (fault : RunFault) → CanCome arrival_of x xs fx
-    → join [] (reverse (arrivals (taken_of First past)) ++ xs) fx (reverse (arrivals (taken_of Second past)))
-    (Some fault)
-    ≡ joined_as (frames_of (map seen_of past)) (Some fault)
-lists-stop-left = stops-second time-of arrival_of frame-as join joined_as list-steps arrivals both-frames frames-seen
+    → merge by_frame_time [] (reverse (arrivals (taken_of First past)) ++ xs) fx
+    (reverse (arrivals (taken_of Second past))) (Some fault)
+    ≡ merged_as (frames_of (map seen_of past)) (Some fault)
+lists-stop-left = stops-second by_frame_time time-of arrival_of arrivals both-frames frames-seen
 
 pub lists-end : (past : List (OfTwo Heading)) → CameFirst time-of past Gone Gone
-    → join [] (reverse (arrivals (taken_of First past))) None (reverse (arrivals (taken_of Second past))) None
-    ≡ joined_as (frames_of (map seen_of past)) None
-lists-end = ended time-of arrival_of frame-as join joined_as list-steps arrivals both-frames frames-seen
+    → merge by_frame_time [] (reverse (arrivals (taken_of First past))) None
+    (reverse (arrivals (taken_of Second past))) None
+    ≡ merged_as (frames_of (map seen_of past)) None
+lists-end = ended by_frame_time time-of arrival_of arrivals both-frames frames-seen

@@ -20,12 +20,14 @@ use Rattle.afdx_input_sources.specs.ListSource.{item_given}
 use Rattle.afdx_input_sources.specs.declared.merged.Nth.TheVariants.{First, Second}
 use Rattle.afdx_input_runs.specs.declared.seen.Seen.{Seen}
 use Rattle.afdx_input_runs.specs.declared.two_lists.TwoLists.{TwoLists}
-use Rattle.afdx_input_runs.specs.Joining.{Coming, Frame, Joined, ListsTo, first_of, frame_of, frames_of, join, joined, joined_as}
+use Rattle.afdx_input_sources.specs.Merging.{merge, merged_as}
+use Rattle.afdx_input_runs.specs.Joining.{Coming, Frame, Joined, ListsTo, by_frame_time, first_of, frame_of, frames_of, joined}
+use Rattle.afdx_input_runs.specs.Joining.{role_of}
 use Rattle.afdx_input_runs.specs.TwoListsRun.{AreListed, HoldsOfFirst, IfBothGiven, TwoListsAnswer, TwoListsStop}
-use Rattle.afdx_input_runs.specs.TwoListsSource.{StopsWith, role_of, seen_of}
+use Rattle.afdx_input_runs.specs.TwoListsSource.{StopsWith, seen_of}
 use Rattle.afdx_input_runs.proofs.FaultLemmas.{named-cause, read-cause}
 use Rattle.afdx_input_sources.proofs.CameLemmas.{IsTimed, ahead-timed}
-use Rattle.afdx_input_runs.proofs.JoinLemmas.{EndsIn, join-extends}
+use Rattle.afdx_input_sources.proofs.MergeLemmas.{EndsIn, merge-extends}
 use Rattle.afdx_input_runs.proofs.PairAnswerLemmas.{if-both}
 use Rattle.afdx_input_runs.proofs.ListedLemmas.{Behind, StoppedBy, continues}
 use Rattle.afdx_input_runs.proofs.HeadedLemmas.{Comes, FrameList, Given, GivenAll, StoppedList, comes-by, given-all, stopped-list}
@@ -76,17 +78,17 @@ module _ {R : Type 0} (remaining : R → Option (List ℕ)) where
         pub came : Coming
         pub left : Coming
         pub listed_so : AreListed remaining bytes_came bytes_left inputs came left
-        pub ends : EndsIn (frames_of past) (joined came left).frames
+        pub ends : EndsIn (frames_of past) (joined came left).items
 
       first-by : (past : List (Item Seen)) (xs ys rest_x rest_y : List Arrival) (fx fy : Option RunFault)
           → ListsTo Came bytes_came xs fx → ListsTo Left bytes_left ys fy
-          → join [] xs fx ys fy ≡ join (frames_of past) rest_x fx rest_y fy → AreFirst past
+          → merge by_frame_time [] xs fx ys fy ≡ merge by_frame_time (frames_of past) rest_x fx rest_y fy → AreFirst past
       first-by past xs ys rest_x rest_y fx fy lists_x lists_y is =
-          let e = join-extends (frames_of past) rest_x fx rest_y fy in record {
+          let e = merge-extends by_frame_time (frames_of past) rest_x fx rest_y fy in record {
             came = record { next = xs; fault = fx };
             left = record { next = ys; fault = fy };
             listed_so = (lists_x, lists_y);
-            ends = (e.0, ap (λ (j : Joined). j.frames) is ∙ e.1);
+            ends = (e.0, ap (λ (j : Joined). j.items) is ∙ e.1);
           }
 
       gave-first : (past : List (Item Seen)) → Gave remaining start inputs lists past → AreFirst past
@@ -113,12 +115,12 @@ module _ {R : Type 0} (remaining : R → Option (List ℕ)) where
           given-all remaining start.left inputs.left lists.both.second.source Left bytes_left known_left taken h
 
       ended-so : (past : List (Item Seen)) (h : Ended remaining start inputs lists past)
-          → join [] (reverse (arrivals (taken_of First h.of_two))) None
+          → merge by_frame_time [] (reverse (arrivals (taken_of First h.of_two))) None
           (reverse (arrivals (taken_of Second h.of_two))) None
-          ≡ joined_as (frames_of past) None
+          ≡ merged_as (frames_of past) None
       ended-so past h =
           lists-end h.of_two h.known_so.came_first
-          ∙ ap (λ (l : List (Item Seen)). joined_as (frames_of l) None) (sym h.frames_are)
+          ∙ ap (λ (l : List (Item Seen)). merged_as (frames_of l) None) (sym h.frames_are)
 
       ended-first : (past : List (Item Seen)) → Ended remaining start inputs lists past → AreFirst past
       ended-first past h = record {
@@ -128,7 +130,7 @@ module _ {R : Type 0} (remaining : R → Option (List ℕ)) where
           (came-all (taken_of First h.of_two) h.known_so.first).0,
           (left-all (taken_of Second h.of_two) h.known_so.second).0,
         );
-        ends = ([], ap (λ (j : Joined). j.frames) (ended-so past h));
+        ends = ([], ap (λ (j : Joined). j.items) (ended-so past h));
       }
 
       -- of some first frames a beginning is told
@@ -168,9 +170,9 @@ module _ {R : Type 0} (remaining : R → Option (List ℕ)) where
             of_two
 
         named-so : (any : RunFault) → fault ≡ any
-            → joined_as (frames_of (map seen_of of_two)) (Some any)
-            ≡ joined_as (frames_of (map seen_of of_two)) (Some fault)
-        named-so any is = ap (λ (f : RunFault). joined_as (frames_of (map seen_of of_two)) (Some f)) (sym is)
+            → merged_as (frames_of (map seen_of of_two)) (Some any)
+            ≡ merged_as (frames_of (map seen_of of_two)) (Some fault)
+        named-so any is = ap (λ (f : RunFault). merged_as (frames_of (map seen_of of_two)) (Some f)) (sym is)
 
         came-by : (cause : Cause) → cause_of own ≡ cause → fault ≡ fault_of_list Came own
             → StoppedList remaining start.came lists.both.first.source inputs.came (taken_of First of_two) own
@@ -321,7 +323,7 @@ module _ {R : Type 0} (remaining : R → Option (List ℕ)) where
         let b = continues Left bytes_left 0 (omega arith) (λ i less. absurd (omega (arith, less))) in
         let came : Coming = record { next = reverse (first_of bytes_came 0) ++ a.next; fault = a.fault } in
         let left : Coming = record { next = reverse (first_of bytes_left 0) ++ b.next; fault = b.fault } in
-        let all = (joined came left).frames in
+        let all = (joined came left).items in
         (came, left, (a.listed, b.listed), ([], all, sym (append-nil all), inl t))
 
     pub memory-answer : told [] → IfBothGiven remaining inputs (λ came left.

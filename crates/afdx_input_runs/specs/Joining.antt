@@ -1,8 +1,7 @@
 -- The frames of two lists as one: of what came in at switches, and of what left them. The frame of
 -- lesser time comes first, at one time the one that came in. The head of the list of what came in
 -- is looked for first; a fault ends all as soon as it is what is found there.
-use Rattle.std.specs.Prelude.{ℕ, ◌≡◌, List, [], ◌∷◌, reverse, length, map, nat_lt, Option, Some, None}
-use Rattle.std.specs.Prelude.{if◌then◌else◌}
+use Rattle.std.specs.Prelude.{ℕ, ◌≡◌, List, reverse, length, map, Option, Some, None}
 use Rattle.afdx_police.specs.Arrival.{Arrival}
 use Rattle.afdx_input_lines.specs.Faults.{fault_of_list}
 use Rattle.afdx_input_lines.specs.FrameLines.{listed_frame}
@@ -16,6 +15,10 @@ use Rattle.afdx_input_sources.specs.Engine.{Item, item_of}
 use Rattle.afdx_input_sources.specs.Items.{thing_of}
 use Rattle.afdx_input_sources.specs.Listed as listed
 use Rattle.afdx_input_sources.specs.Lists.{HaveFirstFault, HaveNoFault, items_of}
+use Rattle.afdx_input_sources.specs.Merging as merging
+use Rattle.afdx_input_sources.specs.Merging.{ByTime, Merged, merged}
+use Rattle.afdx_input_sources.specs.declared.merged.Nth.{Nth}
+use Rattle.afdx_input_sources.specs.declared.merged.Nth.TheVariants.{First, Second}
 use Rattle.afdx_input_runs.specs.declared.seen.Seen.{Seen}
 
 -- a frame of one of the two lists. Of what left, the port is the one at which it left
@@ -44,46 +47,25 @@ frames_of past = map frame_of past
 
 -- ---- the two as one
 
--- what comes of a list, the next one first, and the fault that stands behind it
-pub record Coming : Type 0 where
-  pub next : List Arrival
-  pub fault : Option RunFault
+-- the first list is that of what came in
+abbrev pub role_of : Nth → Role
+role_of First = Came
+role_of Second = Left
 
--- frames of both, the newest first, and the fault that stands behind them
-pub record Joined : Type 0 where
-  pub frames : List Frame
-  pub fault : Option RunFault
+-- each frame comes at its time
+abbrev pub by_frame_time : ByTime Arrival Frame
+by_frame_time = record { time = λ x. Some x.time; as_one = λ n x. frame_with (role_of n) x }
 
-abbrev pub joined_as : List Frame → Option RunFault → Joined
-joined_as past fault = record { frames = past; fault = fault }
+-- what comes of a list
+abbrev pub Coming : Type 0
+Coming = merging.Coming Arrival
 
--- no more came in: what is left of what left
-unfoldable pub rest_of_left : List Frame → List Arrival → Option RunFault → Joined
-rest_of_left past [] fault = joined_as past fault
-rest_of_left past (y ∷ ys) fault = rest_of_left (frame_with Left y ∷ past) ys fault
-
-abbrev pub behind_came : List Frame → Option RunFault → List Arrival → Option RunFault → Joined
-behind_came past (Some fault) ys fault_y = joined_as past (Some fault)
-behind_came past None ys fault_y = rest_of_left past ys fault_y
-
--- this one came in next; `next` is what comes once it is taken
-unfoldable pub at_came : Arrival → (next : List Frame → List Arrival → Joined) → List Frame →
-    List Arrival → Option RunFault → Joined
-at_came x next past [] (Some fault) = joined_as past (Some fault)
-at_came x next past [] None = next (frame_with Came x ∷ past) []
-at_came x next past (y ∷ ys) fault =
-    if nat_lt y.time x.time then at_came x next (frame_with Left y ∷ past) ys fault
-    else next (frame_with Came x ∷ past) (y ∷ ys)
-
--- what comes of both, behind these
-unfoldable pub join : List Frame → List Arrival → Option RunFault → List Arrival →
-    Option RunFault → Joined
-join past [] fault_x ys fault_y = behind_came past fault_x ys fault_y
-join past (x ∷ xs) fault_x ys fault_y =
-    at_came x (λ before ys. join before xs fault_x ys fault_y) past ys fault_y
+-- frames of both
+abbrev pub Joined : Type 0
+Joined = Merged Frame
 
 abbrev pub joined : (came left : Coming) → Joined
-joined came left = join [] came.next came.fault left.next left.fault
+joined came left = merged by_frame_time came left
 
 -- ---- what comes of the list of these bytes
 

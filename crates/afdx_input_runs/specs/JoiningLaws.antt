@@ -26,7 +26,7 @@ coming_of Left came left = left
 abbrev pub EachListIsTold : Type 0
 EachListIsTold = (role : Role) (came left : Coming) →
     (later : List Arrival)
-    × (reverse (coming_of role came left).next ≡ later ++ of_role role (joined came left).frames)
+    × (reverse (coming_of role came left).next ≡ later ++ of_role role (joined came left).items)
     × ((joined came left).fault ≡ None → later ≡ [])
 
 -- ---- they are in order
@@ -48,4 +48,4 @@ AreInOrder (x ∷ past) = IsBehind x past × AreInOrder past
 abbrev pub FramesAreInOrder : Type 0
 FramesAreInOrder = (bytes_came bytes_left : List ℕ) (came left : Coming) →
     IsListed Came bytes_came came → IsListed Left bytes_left left →
-    AreInOrder (joined came left).frames
+    AreInOrder (joined came left).items

@@ -22,10 +22,11 @@ use Rattle.afdx_input_sources.specs.NumberLines.{Lines}
 use Rattle.afdx_input_sources.specs.Places.{place_of}
 use Rattle.afdx_input_sources.specs.Taking.{Taken, AreCutOff, taken_of_bytes}
 use Rattle.afdx_input_sources.specs.Tapping.{Taps, taps_of, taps_of_both}
+use Rattle.afdx_input_sources.specs.Merging.{merged_as}
 use Rattle.afdx_input_sources.specs.declared.becoming.RecordingOptions.{RecordingOptions}
 use Rattle.afdx_input_sources.specs.declared.counts.Tally.{Tally}
 use Rattle.afdx_input_runs.specs.Arrivals.{IsSound}
-use Rattle.afdx_input_runs.specs.Joining.{Coming, Frame, joined, joined_as}
+use Rattle.afdx_input_runs.specs.Joining.{Coming, Frame, joined}
 use Rattle.afdx_input_runs.specs.RecordingRun.{IsAskedOnce}
 use Rattle.afdx_input_runs.specs.SeenLines.{frames_in, frames_listed}
 use Rattle.afdx_input_runs.specs.SeenRun.{AreCutOffByRole, tallies_by_role, taken_by_role}
@@ -57,20 +58,20 @@ module _ {R : Type 0} (remaining : R → Option (List ℕ)) where
     StopsListed fault FailedRead =
         (came : Coming) × (left : Coming)
         × OneIsCutOff remaining both.0 both.1 rest came left
-        × (joined came left ≡ joined_as past (Some fault))
+        × (joined came left ≡ merged_as past (Some fault))
     StopsListed fault BadInput =
         (came : Coming) × (left : Coming) × AreListed remaining both.0 both.1 rest came left
-        × (joined came left ≡ joined_as past (Some fault))
+        × (joined came left ≡ merged_as past (Some fault))
     StopsListed fault _ =
         (came : Coming) × (left : Coming) × AreListed remaining both.0 both.1 rest came left
-        × (later : List Frame) × ((joined came left).frames ≡ later ++ past)
+        × (later : List Frame) × ((joined came left).items ≡ later ++ past)
 
     -- all, and these have so many lines
     pub record AllAreListed (lines : ByRole ℕ) : Type 0 where
       pub came : Coming
       pub left : Coming
       pub are_listed : AreListed remaining both.0 both.1 rest came left
-      pub frames_are : joined came left ≡ joined_as past None
+      pub frames_are : joined came left ≡ merged_as past None
       pub lines_came : lines.came ≡ length (lines_of both.0)
       pub lines_left : lines.left ≡ length (lines_of both.1)
 

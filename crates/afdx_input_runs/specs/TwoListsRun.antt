@@ -8,7 +8,8 @@ use Rattle.afdx_input_lines.specs.declared.role.Role.TheVariants.{Came, Left}
 use Rattle.afdx_input_lines.specs.declared.watched.Watched.{Watched}
 use Rattle.afdx_input_sources.specs.Causes.{Cause, cause_of, FailedRead, BadInput}
 use Rattle.afdx_input_sources.specs.Engine.{Item}
-use Rattle.afdx_input_runs.specs.Joining.{Coming, Frame, IsCutOff, IsListed, frames_of, joined, joined_as}
+use Rattle.afdx_input_sources.specs.Merging.{merged_as}
+use Rattle.afdx_input_runs.specs.Joining.{Coming, Frame, IsCutOff, IsListed, frames_of, joined}
 use Rattle.afdx_input_runs.specs.RecordingRun.{IfBoth}
 use Rattle.afdx_input_runs.specs.declared.seen.Seen.{Seen}
 
@@ -22,14 +23,14 @@ IfBothGiven remaining inputs holds =
 abbrev pub HoldsUpTo : (came left : Coming) → Option RunFault → (List (Item Seen) → Type 0) →
     Type 0
 HoldsUpTo came left fault holds =
-    (items : List (Item Seen)) × (joined came left ≡ joined_as (frames_of items) fault)
+    (items : List (Item Seen)) × (joined came left ≡ merged_as (frames_of items) fault)
     × holds items
 
 -- this holds of some first frames of both
 abbrev pub HoldsOfFirst : (came left : Coming) → (List (Item Seen) → Type 0) → Type 0
 HoldsOfFirst came left holds =
     (items : List (Item Seen)) × (later : List Frame)
-    × ((joined came left).frames ≡ later ++ frames_of items) × holds items
+    × ((joined came left).items ≡ later ++ frames_of items) × holds items
 
 -- the lists of these bytes; their inputs then are these
 module _ {R : Type 0} (remaining : R → Option (List ℕ)) (bytes_came bytes_left : List ℕ)

@@ -4,21 +4,12 @@ use Rattle.afdx_input_lines.specs.Faults.{fault_of_list}
 use Rattle.afdx_input_lines.specs.declared.fault.RunFault.{RunFault}
 use Rattle.afdx_input_lines.specs.declared.frame_line.Heading.{Heading}
 use Rattle.afdx_input_lines.specs.declared.role.ByRole.{ByRole}
-use Rattle.afdx_input_lines.specs.declared.role.Role.{Role}
-use Rattle.afdx_input_lines.specs.declared.role.Role.TheVariants.{Came, Left}
 use Rattle.afdx_input_sources.specs.Engine.{Item}
 use Rattle.afdx_input_sources.specs.Items.{CanFollow, heading_order}
 use Rattle.afdx_input_sources.specs.MergedSource.{AreMerged, AreMergedToEnd, OfTwo, StopsMerging, given, inputs_by_role}
-use Rattle.afdx_input_sources.specs.declared.merged.Nth.{Nth}
-use Rattle.afdx_input_sources.specs.declared.merged.Nth.TheVariants.{First, Second}
 use Rattle.afdx_input_runs.specs.declared.seen.Seen.{Seen}
 use Rattle.afdx_input_runs.specs.declared.two_lists.TwoLists.{TwoLists}
-use Rattle.afdx_input_runs.specs.Joining.{seen_as}
-
--- the first list is that of what came in
-abbrev pub role_of : Nth → Role
-role_of First = Came
-role_of Second = Left
+use Rattle.afdx_input_runs.specs.Joining.{role_of, seen_as}
 
 -- an item of one of the two as a frame
 abbrev pub seen_of : OfTwo Heading → Item Seen

@@ -1,7 +1,7 @@
 //! The frames of two lists, of what came in at switches and of what left them: the earlier first.
 
 ghost use Rattle.std.specs.Prelude.{◌≡◌};
-ghost use Rattle.afdx_input_runs.specs.TwoListsSource as spec;
+ghost use Rattle.afdx_input_runs.specs.Joining as spec;
 
 use crate::seen::Seen;
 use afdx_input_lines::{ByRole, Heading, Next, Role, RunFault};

@@ -58,7 +58,6 @@ use Rattle.afdx_input_sources.specs.Taking.{late_of_both, late_of_one}
 use Rattle.afdx_input_sources.specs.Timing.{Timed, line_by, origin_in, timed}
 use Rattle.afdx_input_sources.proofs.EachLemmas.{Each, each-all, each-append, each-behind, each-drop, each-handed, each-held}
 use Rattle.afdx_input_sources.proofs.EachLemmas.{each-both, each-more}
-use Rattle.afdx_input_sources.proofs.MergeLemmas.{merge-extends}
 use Rattle.afdx_input_sources.proofs.SequenceLemmas.{sorts-first}
 use Rattle.afdx_input_sources.proofs.TimingLemmas.{timed-before}
 

@@ -37,12 +37,11 @@ use Rattle.afdx_input_sources.specs.Places.{is_left_out}
 use Rattle.afdx_input_sources.specs.Claims.{Ports, Agree}
 use Rattle.afdx_input_sources.specs.Laws.{SequencesAgree, ArrivalsHaveTheirBytes, ArrivalsAreInOrder}
 use Rattle.afdx_input_sources.specs.Laws.{ArrivalsAreTakenInOrder, ArrivalsOfBothAreInOrder, AreInOrder}
-use Rattle.afdx_input_sources.specs.Merging.{merged}
 use Rattle.afdx_input_sources.specs.NumberLines.{Lines, arrivals_listed}
 use Rattle.afdx_input_sources.specs.Ordering.{forward, handed_on, in_order, ordered, sequence}
 use Rattle.afdx_input_sources.specs.Sequences.{Outcome, Numbers, as_read, read_of_items, number_after, number_by}
 use Rattle.afdx_input_sources.specs.Sequences.{and_then, with_number}
-use Rattle.afdx_input_sources.specs.Taking.{AreCutOff, AreCutOffAtOne, arrivals_in, fault_of, late_of_one, late_of_both}
+use Rattle.afdx_input_sources.specs.Taking.{AreCutOff, AreCutOffAtOne, arrivals_in, both_numbers, fault_of, late_of_one, late_of_both}
 use Rattle.afdx_input_sources.specs.Taking.{sequence_of_bytes, taken_of_both, taken_of_bytes, timed_of_both}
 use Rattle.afdx_input_sources.proofs.HandingLemmas.{AreOrdered, arrivals-in-order, handed-ordered, ordered-behind}
 use Rattle.afdx_input_sources.proofs.HandingLemmas.{forward-fits}
@@ -196,8 +195,8 @@ module _ (of_a of_b : Options) (ports : Ports) (said : Option ℕ) where
       → AreInOrder (arrivals (arrivals_listed (timed_of_both said (record { next = reverse a; fault = fault_a })
       (record { next = reverse b; fault = fault_b })).lines))
   both-ordered a b fault_a fault_b h k =
-      lines-ordered late_of_both said (merged (record { next = reverse a; fault = fault_a })
-      (record { next = reverse b; fault = fault_b })).numbers (merged-ordered a b fault_a fault_b h k)
+      lines-ordered late_of_both said (both_numbers (record { next = reverse a; fault = fault_a })
+      (record { next = reverse b; fault = fault_b })).items (merged-ordered a b fault_a fault_b h k)
 
   pub both-in-order : (a b : Recording)
       → AreInOrder (arrivals_in (taken_of_both said (sequence of_a ports a) (sequence of_b ports b)))

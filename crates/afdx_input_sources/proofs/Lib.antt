@@ -17,8 +17,9 @@ pub mod HoldingLemmas
 pub mod OrderedLemmas
 pub mod StepLemmas
 pub mod OrderedKnownLemmas
-pub mod CameLemmas
 pub mod MergeLemmas
+pub mod CameLemmas
+pub mod PairedLemmas
 pub mod MergedLemmas
 pub mod OrderLemmas
 pub mod LawLemmas

@@ -1,270 +1,196 @@
--- The numbers of two recordings as one: one number more of either, and the ends.
-use Rattle.std.proofs.Common.{◌≡◌, ℕ, ◌≤◌, ◌<◌, List, [], ◌∷◌, ◌++◌, length, reverse, append_assoc, refl, ap, sym, ◌∙◌, arith}
+-- Two sources as one, by time: one item more of either, the ends, and what is true step by step.
+use Rattle.std.proofs.Common.{◌≡◌, ℕ, List, [], ◌∷◌, ◌++◌, append_assoc, refl, ap, sym, ◌∙◌}
 use Rattle.std.proofs.Common.{Option, Some, None, Bool, true, false, if◌then◌else◌}
-use Rattle.std.proofs.lemmas.List.{length-map}
 use Rattle.afdx_input_lines.specs.declared.fault.RunFault.{RunFault}
-use Rattle.afdx_input_sources.specs.Engine.{Item}
-use Rattle.afdx_input_sources.specs.declared.becoming.FoundFrame.{FoundFrame}
-use Rattle.afdx_input_sources.specs.declared.merged.Nth.{Nth}
 use Rattle.afdx_input_sources.specs.declared.merged.Nth.TheVariants.{First, Second}
-use Rattle.afdx_input_sources.specs.declared.number.Number.{Number}
-use Rattle.afdx_input_sources.specs.declared.number.Number.TheVariants.{Arrival, Skipped}
-use Rattle.afdx_input_sources.specs.Items.{most_frames}
-use Rattle.afdx_input_sources.specs.MergedSource.{CameFirst, FollowsBoth, Front, Gone, OfTwo, Unsought}
-use Rattle.afdx_input_sources.specs.MergedSource.{is_earlier, items_of, latest_by, or_before, taken_of}
-use Rattle.afdx_input_sources.specs.Merging.{Merged, at_head_of_a, behind_a, by_head_of_a, is_first, merge, rest_of_b}
-use Rattle.afdx_input_sources.specs.NumberLines.{NumberFollows, comes_at, number_order}
-use Rattle.afdx_input_sources.specs.Sequences.{Numbers, is_arrival, latest_of, moment_or}
-use Rattle.afdx_input_sources.proofs.CameLemmas.{CanCome, IsTimed, Sees, Steps, came, ended, stops-first, stops-second}
-
--- ---- of A
-
-by-skipped : (head : Number) (skipped arrival : Merged) → is_arrival head ≡ false
-    → by_head_of_a head skipped arrival ≡ skipped
-by-skipped (Arrival found) skipped arrival e = absurd (cc)
-by-skipped (Skipped reason) skipped arrival e = refl
-
--- a number of A that is skipped
-pub merge-skipped-a : (past : Numbers) (x : Item Number) (xs ys : List (Item Number)) (fa fb : Option RunFault)
-    → is_arrival x.head ≡ false → merge past (x ∷ xs) fa ys fb ≡ merge (x ∷ past) xs fa ys fb
-unfolding merge
-merge-skipped-a past x xs ys fa fb is =
-    by-skipped x.head (merge (x ∷ past) xs fa ys fb)
-    (at_head_of_a x (λ before ys. merge before xs fa ys fb) past ys fb) is
-
--- an arrival of A stands at its head
-pub merge-head : (past : Numbers) (x : Item Number) (xs ys : List (Item Number))
-    (fa fb : Option RunFault) (found : FoundFrame)
-    → x.head ≡ Arrival found
-    → merge past (x ∷ xs) fa ys fb ≡ at_head_of_a x (λ before ys. merge before xs fa ys fb) past ys fb
-unfolding merge
-merge-head past x xs ys fa fb found is = rw is refl
-
--- and comes, for it is not later than that of B
-pub merge-arrival-a : (past : Numbers) (x y : Item Number) (xs ys : List (Item Number)) (fa fb : Option RunFault)
-    (found : FoundFrame) → x.head ≡ Arrival found → is_first y.head (Arrival found) ≡ false
-    → merge past (x ∷ xs) fa (y ∷ ys) fb ≡ merge (x ∷ past) xs fa (y ∷ ys) fb
-unfolding at_head_of_a
-merge-arrival-a past x y xs ys fa fb found is later =
-    merge-head past x xs (y ∷ ys) fa fb found is
-    ∙ (rw (is, later) refl)
-
--- or B is at its end
-pub merge-arrival-alone : (past : Numbers) (x : Item Number) (xs : List (Item Number)) (fa : Option RunFault)
-    (found : FoundFrame) → x.head ≡ Arrival found → merge past (x ∷ xs) fa [] None ≡ merge (x ∷ past) xs fa [] None
-unfolding at_head_of_a
-merge-arrival-alone past x xs fa found is = merge-head past x xs [] fa None found is
-
--- a fault of A
-pub merge-fault-a : (past : Numbers) (ys : List (Item Number)) (fault : RunFault) (fb : Option RunFault)
-    → merge past [] (Some fault) ys fb ≡ record { numbers = past; fault = Some fault }
-unfolding merge
-merge-fault-a past ys fault fb = refl
-
--- ---- of B
-
-at-first : (past : Numbers) (x y : Item Number) (next : Numbers → List (Item Number) → Merged) (ys : List (Item
-    Number))
-    (fb : Option RunFault) → is_first y.head x.head ≡ true
-    → at_head_of_a x next past (y ∷ ys) fb ≡ at_head_of_a x next (y ∷ past) ys fb
-unfolding at_head_of_a
-at-first past x y next ys fb first = rw first refl
-
--- a number of B comes before the arrival of A
-pub merge-first-b : (past : Numbers) (x y : Item Number) (xs ys : List (Item Number)) (fa fb : Option RunFault)
-    (found : FoundFrame) → x.head ≡ Arrival found → is_first y.head (Arrival found) ≡ true
-    → merge past (x ∷ xs) fa (y ∷ ys) fb ≡ merge (y ∷ past) (x ∷ xs) fa ys fb
-merge-first-b past x y xs ys fa fb found is first =
-    merge-head past x xs (y ∷ ys) fa fb found is
-    ∙ at-first past x y (λ before ys. merge before xs fa ys fb) ys fb (rw is first)
-    ∙ sym (merge-head (y ∷ past) x xs ys fa fb found is)
-
--- or A is at its end
-pub merge-alone-b : (past : Numbers) (y : Item Number) (ys : List (Item Number)) (fb : Option RunFault)
-    → merge past [] None (y ∷ ys) fb ≡ merge (y ∷ past) [] None ys fb
-unfolding merge rest_of_b
-merge-alone-b past y ys fb = refl
-
--- a fault of B, while an arrival of A stands
-pub merge-fault-b : (past : Numbers) (x : Item Number) (xs : List (Item Number)) (fa : Option RunFault)
-    (fault : RunFault) (found : FoundFrame) → x.head ≡ Arrival found
-    → merge past (x ∷ xs) fa [] (Some fault) ≡ record { numbers = past; fault = Some fault }
-unfolding at_head_of_a
-merge-fault-b past x xs fa fault found is = merge-head past x xs [] fa (Some fault) found is
-
--- or A is at its end
-pub merge-fault-alone : (past : Numbers) (fault : Option RunFault)
-    → merge past [] None [] fault ≡ record { numbers = past; fault = fault }
-unfolding merge rest_of_b
-merge-fault-alone past fault = refl
-
--- ---- one step more, by when a number comes
-
-first-same : (y : Number) (found : FoundFrame) → is_first y (Arrival found) ≡
-    is_earlier (comes_at y) (Some found.moment)
-first-same (Arrival other) found = refl
-first-same (Skipped reason) found = refl
-
-arrival-of : (n : Number) (t : ℕ) → comes_at n ≡ Some t → (found : FoundFrame) × (n ≡ Arrival found) ×
-    (found.moment ≡ t)
-arrival-of (Arrival found) t e = (found, refl, cc)
-arrival-of (Skipped reason) t e = absurd (cc)
-
-skipped-of : (n : Number) → comes_at n ≡ None → is_arrival n ≡ false
-skipped-of (Arrival found) e = absurd (cc)
-skipped-of (Skipped reason) e = refl
+use Rattle.afdx_input_sources.specs.Merging.{ByTime, Merged, at_head, behind_first, if_timed, is_earlier, merge, merged_as}
+use Rattle.afdx_input_sources.specs.Merging.{rest_of_second}
 
 timed-before : (a b : Option ℕ) → is_earlier a b ≡ true → (t : ℕ) × (b ≡ Some t)
 timed-before a (Some t) e = (t, refl)
 timed-before None None e = absurd (cc)
 timed-before (Some y) None e = absurd (cc)
 
-by-time : (y x : Number) (t : ℕ) (found : FoundFrame) (b : Bool) → found.moment ≡ t →
-    is_earlier (comes_at y) (Some t) ≡ b
-    → is_first y (Arrival found) ≡ b
-by-time y x t found b at_t e =
-    first-same y found ∙ ap (λ (m : ℕ). is_earlier (comes_at y) (Some m)) at_t ∙ e
+never-before : (a : Option ℕ) → is_earlier a None ≡ false
+never-before None = refl
+never-before (Some t) = refl
 
--- the newest moment
+module _ {X Z : Type 0} (by : ByTime X Z) where
+  -- ---- of the first
 
-latest-next : (n : Number) (a b : ℕ) → a ≡ b → or_before (comes_at n) a ≡ moment_or n b
-latest-next (Arrival found) a b e = refl
-latest-next (Skipped reason) a b e = e
+  -- one that comes at once
+  pub merge-at-once : (past : List Z) (x : X) (xs ys : List X) (fx fy : Option RunFault) → by.time x ≡ None
+      → merge by past (x ∷ xs) fx ys fy ≡ merge by (by.as_one First x ∷ past) xs fx ys fy
+  unfolding merge
+  merge-at-once past x xs ys fx fy is =
+      ap (λ (a : Option ℕ). if_timed a
+      (λ t. at_head by t x (λ before ys. merge by before xs fx ys fy) past ys fy)
+      (merge by (by.as_one First x ∷ past) xs fx ys fy)) is
 
-pub latest-numbers : (past : Numbers) → latest_by comes_at past ≡ latest_of past
-unfolding latest_by latest_of
-latest-numbers [] = refl
-latest-numbers (x ∷ past) = latest-next x.head (latest_by comes_at past) (latest_of past) (latest-numbers past)
+  -- one that has a time stands at its head
+  pub merge-head : (past : List Z) (x : X) (xs ys : List X) (fx fy : Option RunFault) (t : ℕ) → by.time x ≡ Some t
+      → merge by past (x ∷ xs) fx ys fy
+      ≡ at_head by t x (λ before ys. merge by before xs fx ys fy) past ys fy
+  unfolding merge
+  merge-head past x xs ys fx fy t is =
+      ap (λ (a : Option ℕ). if_timed a
+      (λ t. at_head by t x (λ before ys. merge by before xs fx ys fy) past ys fy)
+      (merge by (by.as_one First x ∷ past) xs fx ys fy)) is
 
--- one that may come after those of both
-pub paired-follows : (past : List (OfTwo Number)) (x : OfTwo Number) → FollowsBoth number_order NumberFollows past x
-    → (latest_of (items_of past) ≤ latest_of (items_of (x ∷ past))) × (length (items_of past) < most_frames)
-paired-follows past x h =
-    let before = latest-numbers (items_of past) in
-    let after = latest-numbers (items_of (x ∷ past)) in
-    let n = length-map past (λ (z : OfTwo Number). z.item) in
-    (omega (arith, h.later, before, after), omega (arith, h.few, n))
+  -- and comes, for it is not later than that of the second
+  pub merge-first : (past : List Z) (x y : X) (xs ys : List X) (fx fy : Option RunFault) (t : ℕ)
+      → by.time x ≡ Some t → is_earlier (by.time y) (Some t) ≡ false
+      → merge by past (x ∷ xs) fx (y ∷ ys) fy ≡ merge by (by.as_one First x ∷ past) xs fx (y ∷ ys) fy
+  unfolding at_head
+  merge-first past x y xs ys fx fy t is later = merge-head past x xs (y ∷ ys) fx fy t is ∙ rw later refl
 
-abbrev pub number-itself : Item Number → Item Number
-number-itself x = x
+  -- or the second is at its end
+  pub merge-first-alone : (past : List Z) (x : X) (xs : List X) (fx : Option RunFault) (t : ℕ) → by.time x ≡ Some t
+      → merge by past (x ∷ xs) fx [] None ≡ merge by (by.as_one First x ∷ past) xs fx [] None
+  unfolding at_head
+  merge-first-alone past x xs fx t is = merge-head past x xs [] fx None t is
 
-abbrev pub of-either : Nth → Item Number → Item Number
-of-either n x = x
+  -- a fault of the first
+  pub merge-fault-first : (past : List Z) (fault : RunFault) (ys : List X) (fy : Option RunFault)
+      → merge by past [] (Some fault) ys fy ≡ merged_as past (Some fault)
+  unfolding merge
+  merge-fault-first past fault ys fy = refl
 
-abbrev pub merged-so : Numbers → Option RunFault → Merged
-merged-so past fault = record { numbers = past; fault = fault }
+  -- ---- of the second
 
-pub number-steps : Steps comes_at number-itself of-either merge merged-so
-number-steps = record {
-  first = λ past x y xs ys fx fy t is later.
-      let f = arrival-of x.head t is in
-      merge-arrival-a past x y xs ys fx fy f.0 f.1 (by-time y.head x.head t f.0 false f.2 later);
-  first_alone = λ past x xs fx t is.
-      let f = arrival-of x.head t is in merge-arrival-alone past x xs fx f.0 f.1;
-  at_once = λ past x xs ys fx fy is. merge-skipped-a past x xs ys fx fy (skipped-of x.head is);
-  second = λ past x y xs ys fx fy e.
-      let timed = timed-before (comes_at y.head) (comes_at x.head) e in
-      let f = arrival-of x.head timed.0 timed.1 in
-      merge-first-b past x y xs ys fx fy f.0 f.1 (by-time y.head x.head timed.0 f.0 true f.2
-      (ap (is_earlier (comes_at y.head)) (sym timed.1) ∙ e));
-  second_alone = λ past y ys fy. merge-alone-b past y ys fy;
-  fault_first = λ past fault ys fy. merge-fault-a past ys fault fy;
-  fault_second = λ past x xs fx fault t is.
-      let f = arrival-of x.head t is in merge-fault-b past x xs fx fault f.0 f.1;
-  end = λ past fault. merge-fault-alone past fault;
-}
+  at-sooner : (past : List Z) (x y : X) (next : List Z → List X → Merged Z) (ys : List X) (fy : Option RunFault)
+      (t : ℕ) → is_earlier (by.time y) (Some t) ≡ true
+      → at_head by t x next past (y ∷ ys) fy ≡ at_head by t x next (by.as_one Second y ∷ past) ys fy
+  unfolding at_head
+  at-sooner past x y next ys fy t sooner = rw sooner refl
 
-abbrev pub numbers-themselves : Numbers → Numbers
-numbers-themselves past = past
+  -- one comes before that of the first
+  pub merge-second : (past : List Z) (x y : X) (xs ys : List X) (fx fy : Option RunFault)
+      → is_earlier (by.time y) (by.time x) ≡ true
+      → merge by past (x ∷ xs) fx (y ∷ ys) fy ≡ merge by (by.as_one Second y ∷ past) (x ∷ xs) fx ys fy
+  merge-second past x y xs ys fx fy e =
+      let timed = timed-before (by.time y) (by.time x) e in
+      let sooner = ap (is_earlier (by.time y)) (sym timed.1) ∙ e in
+      merge-head past x xs (y ∷ ys) fx fy timed.0 timed.1
+      ∙ at-sooner past x y (λ before ys. merge by before xs fx ys fy) ys fy timed.0 sooner
+      ∙ sym (merge-head (by.as_one Second y ∷ past) x xs ys fx fy timed.0 timed.1)
 
-pub numbers-seen : Sees number-itself of-either numbers-themselves items_of
-numbers-seen = record {
-  none = refl;
-  more = λ x xs. refl;
-  none_given = refl;
-  more_given = λ z past. refl;
-}
+  -- or the first is at its end
+  pub merge-second-alone : (past : List Z) (y : X) (ys : List X) (fy : Option RunFault)
+      → merge by past [] None (y ∷ ys) fy ≡ merge by (by.as_one Second y ∷ past) [] None ys fy
+  unfolding merge rest_of_second
+  merge-second-alone past y ys fy = refl
 
--- of all numbers that come these come first, and then what still comes
-pub numbers-go : (past : List (OfTwo Number)) (x y : Front Number) → CameFirst comes_at past x y
-    → (xs ys : Numbers) (fx fy : Option RunFault) → CanCome number-itself x xs fx → CanCome number-itself y ys fy
-    → merge [] (reverse (taken_of First past) ++ xs) fx (reverse (taken_of Second past) ++ ys) fy
-    ≡ merge (items_of past) xs fx ys fy
-numbers-go =
-    came comes_at number-itself of-either merge merged-so number-steps numbers-themselves items_of numbers-seen
+  -- a fault of the second, while one of the first stands
+  pub merge-fault-second : (past : List Z) (x : X) (xs : List X) (fx : Option RunFault) (fault : RunFault) (t : ℕ)
+      → by.time x ≡ Some t → merge by past (x ∷ xs) fx [] (Some fault) ≡ merged_as past (Some fault)
+  unfolding at_head
+  merge-fault-second past x xs fx fault t is = merge-head past x xs [] fx (Some fault) t is
 
--- the recording of A stopped, or that of B, or both ended
-pub numbers-stop-a : (past : List (OfTwo Number)) (y : Front Number) → CameFirst comes_at past Unsought y
-    → (ys : Numbers) (fy : Option RunFault) (fault : RunFault) → CanCome number-itself y ys fy
-    → merge [] (reverse (taken_of First past)) (Some fault) (reverse (taken_of Second past) ++ ys) fy
-    ≡ merged-so (items_of past) (Some fault)
-numbers-stop-a =
-    stops-first comes_at number-itself of-either merge merged-so number-steps numbers-themselves items_of numbers-seen
+  -- or the first is at its end
+  pub merge-end : (past : List Z) (fault : Option RunFault) → merge by past [] None [] fault ≡ merged_as past fault
+  unfolding merge rest_of_second
+  merge-end past fault = refl
 
-pub numbers-stop-b : (past : List (OfTwo Number)) (x : Front Number) → CameFirst comes_at past x Unsought
-    → IsTimed comes_at x → (xs : Numbers) (fx : Option RunFault) (fault : RunFault) → CanCome number-itself x xs fx
-    → merge [] (reverse (taken_of First past) ++ xs) fx (reverse (taken_of Second past)) (Some fault)
-    ≡ merged-so (items_of past) (Some fault)
-numbers-stop-b =
-    stops-second comes_at number-itself of-either merge merged-so number-steps numbers-themselves items_of
-    numbers-seen
+  -- ---- what is true step by step
 
-pub numbers-end : (past : List (OfTwo Number)) → CameFirst comes_at past Gone Gone
-    → merge [] (reverse (taken_of First past)) None (reverse (taken_of Second past)) None
-    ≡ merged-so (items_of past) None
-numbers-end =
-    ended comes_at number-itself of-either merge merged-so number-steps numbers-themselves items_of numbers-seen
+  -- one of the first comes before what is left of the second
+  abbrev pub IsNext : X → List X → Type 0
+  IsNext x [] = Unit {0}
+  IsNext x (y ∷ ys) = is_earlier (by.time y) (by.time x) ≡ false
 
--- ---- what comes stands behind what was there
+  -- one of the second does, before what is left of the first
+  abbrev pub IsSooner : X → List X → Type 0
+  IsSooner y [] = Unit {0}
+  IsSooner y (x ∷ xs) = is_earlier (by.time y) (by.time x) ≡ true
+
+  module _ (P : List Z → List X → List X → Type 0) where
+    -- it is kept as one comes, of what came and of what is left of both
+    pub record IsKept : Type 0 where
+      pub first : (past : List Z) (x : X) (xs ys : List X) → IsNext x ys → P past (x ∷ xs) ys
+          → P (by.as_one First x ∷ past) xs ys
+      pub second : (past : List Z) (y : X) (xs ys : List X) → IsSooner y xs → P past xs (y ∷ ys)
+          → P (by.as_one Second y ∷ past) xs ys
+
+    -- it is true in the end, of what then is left: without a fault nothing
+    pub record IsTrueOf (fx fy : Option RunFault) (end : Merged Z) : Type 0 where
+      pub first : List X
+      pub second : List X
+      pub so : P end.items first second
+      pub whole : end.fault ≡ None → (first ≡ []) × (second ≡ [])
+      pub sound : fx ≡ None → fy ≡ None → end.fault ≡ None
+
+    module _ (kept : IsKept) where
+      true-rest : (past : List Z) (ys : List X) (fy : Option RunFault) → P past [] ys
+          → IsTrueOf None fy (rest_of_second by past ys fy)
+      unfolding rest_of_second
+      true-rest past [] fy p =
+          record { first = []; second = []; so = p; whole = λ e. (refl, refl); sound = λ e f. f }
+      true-rest past (y ∷ ys) fy p = true-rest (by.as_one Second y ∷ past) ys fy (kept.second past y [] ys tt p)
+
+      true-behind : (past : List Z) (fx : Option RunFault) (ys : List X) (fy : Option RunFault) → P past [] ys
+          → IsTrueOf fx fy (behind_first by past fx ys fy)
+      true-behind past (Some fault) ys fy p =
+          record { first = []; second = ys; so = p; whole = λ e. absurd (cc); sound = λ e f. e }
+      true-behind past None ys fy p = true-rest past ys fy p
+
+      module _ (fx : Option RunFault) (x : X) (xs : List X) where
+        true-head : (t : ℕ) → by.time x ≡ Some t → (next : List Z → List X → Merged Z)
+            → (fy : Option RunFault)
+            → ((past : List Z) (ys : List X) → P past xs ys → IsTrueOf fx fy (next past ys))
+            → (past : List Z) (ys : List X) → P past (x ∷ xs) ys
+            → IsTrueOf fx fy (at_head by t x next past ys fy)
+        unfolding at_head
+        true-head t is next (Some fault) h past [] p =
+            record { first = x ∷ xs; second = []; so = p; whole = λ e. absurd (cc); sound = λ e f. f }
+        true-head t is next None h past [] p =
+            h (by.as_one First x ∷ past) [] (kept.first past x xs [] tt p)
+        true-head t is next fy h past (y ∷ ys) p =
+            go (is_earlier (by.time y) (Some t)) refl (λ q. true-head t is next fy h (by.as_one Second y ∷ past) ys q)
+          where
+            go : (b : Bool) → is_earlier (by.time y) (Some t) ≡ b
+                → (P (by.as_one Second y ∷ past) (x ∷ xs) ys
+                → IsTrueOf fx fy (at_head by t x next (by.as_one Second y ∷ past) ys fy))
+                → IsTrueOf fx fy (if b then at_head by t x next (by.as_one Second y ∷ past) ys fy
+                else next (by.as_one First x ∷ past) (y ∷ ys))
+            go true e later =
+                later (kept.second past y (x ∷ xs) ys (ap (is_earlier (by.time y)) is ∙ e) p)
+            go false e later =
+                h (by.as_one First x ∷ past) (y ∷ ys)
+                (kept.first past x xs (y ∷ ys) (ap (is_earlier (by.time y)) is ∙ e) p)
+
+      next-at-once : (x : X) (ys : List X) → by.time x ≡ None → IsNext x ys
+      next-at-once x [] is = tt
+      next-at-once x (y ∷ ys) is = ap (is_earlier (by.time y)) is ∙ never-before (by.time y)
+
+      pub merge-keeps : (past : List Z) (xs : List X) (fx : Option RunFault) (ys : List X) (fy : Option RunFault)
+          → P past xs ys → IsTrueOf fx fy (merge by past xs fx ys fy)
+      unfolding merge
+      merge-keeps past [] fx ys fy p = true-behind past fx ys fy p
+      merge-keeps past (x ∷ xs) fx ys fy p =
+          go (by.time x) refl (λ before zs q. merge-keeps before xs fx zs fy q)
+        where
+          go : (a : Option ℕ) → by.time x ≡ a
+              → ((before : List Z) (zs : List X) → P before xs zs → IsTrueOf fx fy (merge by before xs fx zs fy))
+              → IsTrueOf fx fy (if_timed a
+              (λ t. at_head by t x (λ before zs. merge by before xs fx zs fy) past ys fy)
+              (merge by (by.as_one First x ∷ past) xs fx ys fy))
+          go (Some t) is more = true-head fx x xs t is (λ before zs. merge by before xs fx zs fy) fy more past ys p
+          go None is more = more (by.as_one First x ∷ past) ys (kept.first past x xs ys (next-at-once x ys is) p)
+
+  -- ---- what comes stands behind what was there
 
 -- it ends in this
-abbrev pub EndsIn : Numbers → Numbers → Type 0
-EndsIn past all = (later : Numbers) × (all ≡ later ++ past)
+abbrev pub EndsIn : {Z : Type 0} → List Z → List Z → Type 0
+EndsIn {Z} past all = (later : List Z) × (all ≡ later ++ past)
 
-ends-more : (x : Item Number) (past all : Numbers) → EndsIn (x ∷ past) all → EndsIn past all
-ends-more x past all h = (h.0 ++ (x ∷ []), h.1 ∙ sym (append_assoc h.0 (x ∷ []) past))
+ends-more : {Z : Type 0} (x : Z) (past all : List Z) → EndsIn past all → EndsIn past (x ∷ all)
+ends-more x past all h = (x ∷ h.0, ap (λ l. x ∷ l) h.1)
 
-pub rest-extends : (past : Numbers) (ys : List (Item Number)) (fault : Option RunFault)
-    → EndsIn past (rest_of_b past ys fault).numbers
-unfolding rest_of_b
-rest-extends past [] fault = ([], refl)
-rest-extends past (y ∷ ys) fault =
-    ends-more y past (rest_of_b (y ∷ past) ys fault).numbers (rest-extends (y ∷ past) ys fault)
-
-behind-extends : (past : Numbers) (fa : Option RunFault) (ys : List (Item Number)) (fb : Option RunFault)
-    → EndsIn past (behind_a past fa ys fb).numbers
-behind-extends past (Some fault) ys fb = ([], refl)
-behind-extends past None ys fb = rest-extends past ys fb
-
-by-first : (t : Bool) (past : Numbers) (a b : Merged) → EndsIn past a.numbers → EndsIn past b.numbers
-    → EndsIn past (if t then a else b).numbers
-by-first true past a b h k = h
-by-first false past a b h k = k
-
-pub head-extends : (x : Item Number) (next : Numbers → List (Item Number) → Merged)
-    → ((past : Numbers) (ys : List (Item Number)) → EndsIn past (next past ys).numbers)
-    → (past : Numbers) (ys : List (Item Number)) (fault : Option RunFault)
-    → EndsIn past (at_head_of_a x next past ys fault).numbers
-unfolding at_head_of_a
-head-extends x next h past [] (Some fault) = ([], refl)
-head-extends x next h past [] None = ends-more x past (next (x ∷ past) []).numbers (h (x ∷ past) [])
-head-extends x next h past (y ∷ ys) fault =
-    by-first (is_first y.head x.head) past (at_head_of_a x next (y ∷ past) ys fault) (next (x ∷ past) (y ∷ ys))
-    (ends-more y past (at_head_of_a x next (y ∷ past) ys fault).numbers (head-extends x next h (y ∷ past) ys fault))
-    (ends-more x past (next (x ∷ past) (y ∷ ys)).numbers (h (x ∷ past) (y ∷ ys)))
-
-by-head : (head : Number) (past : Numbers) (a b : Merged) → EndsIn past a.numbers → EndsIn past b.numbers
-    → EndsIn past (by_head_of_a head a b).numbers
-by-head (Skipped reason) past a b h k = h
-by-head (Arrival found) past a b h k = k
-
-pub merge-extends : (past : Numbers) (xs : List (Item Number)) (fa : Option RunFault) (ys : List (Item Number))
-    (fb : Option RunFault) → EndsIn past (merge past xs fa ys fb).numbers
-unfolding merge
-merge-extends past [] fa ys fb = behind-extends past fa ys fb
-merge-extends past (x ∷ xs) fa ys fb =
-    let next = λ (before : Numbers) (ys : List (Item Number)). merge before xs fa ys fb in
-    by-head x.head past (merge (x ∷ past) xs fa ys fb) (at_head_of_a x next past ys fb)
-    (ends-more x past (merge (x ∷ past) xs fa ys fb).numbers (merge-extends (x ∷ past) xs fa ys fb))
-    (head-extends x next (λ (before : Numbers) (ys : List (Item Number)). merge-extends before xs fa ys fb) past ys
-    fb)
+pub merge-extends : {X Z : Type 0} (by : ByTime X Z) (past : List Z) (xs : List X) (fx : Option RunFault)
+    (ys : List X) (fy : Option RunFault) → EndsIn past (merge by past xs fx ys fy).items
+merge-extends by past xs fx ys fy =
+    (merge-keeps by (λ all xs ys. EndsIn past all) (record {
+      first = λ all x xs ys is h. ends-more (by.as_one First x) past all h;
+      second = λ all y xs ys is h. ends-more (by.as_one Second y) past all h;
+    }) past xs fx ys fy ([], refl)).so

@@ -16,8 +16,9 @@ use Rattle.afdx_input_sources.specs.declared.merged.Nth.TheVariants.{First, Seco
 use Rattle.afdx_input_sources.specs.MergedSource.{AreMerged, AreMergedToEnd, CameBy, CameFirst, FollowsBoth, Front, Gone}
 use Rattle.afdx_input_sources.specs.MergedSource.{GivesAtOnce, IsAhead, IsAheadBy, IsBefore, IsFirst, IsInTurn, IsKnown, IsSought}
 use Rattle.afdx_input_sources.specs.MergedSource.{NoneIsBefore, OfTwo, Order, Stands, StopsMerging, Unsought}
-use Rattle.afdx_input_sources.specs.MergedSource.{front_by, front_of, is_earlier, items_of, latest_by, latest_of_both}
+use Rattle.afdx_input_sources.specs.MergedSource.{front_by, front_of, items_of, latest_by, latest_of_both}
 use Rattle.afdx_input_sources.specs.MergedSource.{later_of, next_of, taken_of, with_own}
+use Rattle.afdx_input_sources.specs.Merging.{is_earlier}
 
 -- what isn't given isn't given yet
 pub not-given : (p : Progress) → (p ≡ Given → ⊥) → p ≡ NotYet

@@ -10,12 +10,14 @@ use Rattle.afdx_input_sources.specs.declared.becoming.FoundFrame.{FoundFrame}
 use Rattle.afdx_input_sources.specs.declared.number.Number.{Number}
 use Rattle.afdx_input_sources.specs.declared.number.Number.TheVariants as number
 use Rattle.afdx_input_sources.specs.Laws.{AreInOrder}
-use Rattle.afdx_input_sources.specs.Merging.{Merged, merge, merged, rest_of_b, behind_a, at_head_of_a, by_head_of_a, is_first}
-use Rattle.afdx_input_sources.specs.NumberLines.{Lines, arrivals_listed, as_arrival, latest_time, time_or}
+use Rattle.afdx_input_sources.specs.Merging.{is_earlier}
+use Rattle.afdx_input_sources.specs.NumberLines.{Lines, arrivals_listed, as_arrival, comes_at, latest_time, time_or}
 use Rattle.afdx_input_sources.specs.Sequences.{Numbers, latest_of, moment_or}
+use Rattle.afdx_input_sources.specs.Taking.{both_numbers, by_moment}
 use Rattle.afdx_input_sources.specs.Timing.{Timed, is_late, line_by, origin_in, time_next, timed}
 use Rattle.afdx_input_sources.proofs.ArrivingLemmas.{listed-latest}
 use Rattle.afdx_input_sources.proofs.HandingLemmas.{AreOrdered}
+use Rattle.afdx_input_sources.proofs.MergeLemmas.{IsNext, IsSooner, merge-keeps}
 use Rattle.afdx_input_sources.proofs.TimingLemmas.{Line-of, IsInTime, in-time, in-time-more, time-grows}
 
 -- ---- the numbers of two recordings
@@ -57,115 +59,77 @@ ascend-reverse (x ∷ past) h =
     (ascend-append 0 (reverse past) x (ascend-reverse past h.1)
     (subst (λ (m : ℕ). m ≤ moment_or x.head m) (sym (behind-reverse past)) le))
 
--- one more is put behind those that came
-put-ordered : (past : Numbers) (x : Item Number) → AreOrdered past
-    → latest_of past ≤ moment_or x.head (latest_of past) → AreOrdered (x ∷ past)
+-- one of the other recording still comes in order, behind one more
+pub record ComesBehind (latest next : ℕ) (n : Number) : Type 0 where
+  pub le : next ≤ moment_or n next
+  pub same : moment_or n latest ≡ moment_or n next
+
+ascend-behind : (latest next : ℕ) (z : Item Number) (zs : List (Item Number)) → ComesBehind latest next z.head
+    → Ascend latest (z ∷ zs) → Ascend next (z ∷ zs)
+ascend-behind latest next z zs c a = (c.le, subst (λ (m : ℕ). Ascend m zs) c.same a.1)
+
+-- what doesn't come before this one
+next-head : (latest : ℕ) (x y : Number) → is_earlier (comes_at y) (comes_at x) ≡ false → latest ≤ moment_or y latest
+    → ComesBehind latest (moment_or x latest) y
+next-head latest (number.Skipped reason) y e le = record { le = le; same = refl }
+next-head latest (number.Arrival found) (number.Arrival other) e le =
+    record { le = ltb-false other.moment found.moment e; same = refl }
+next-head latest (number.Arrival found) (number.Skipped reason) e le = absurd (cc e)
+
+-- what this one comes before
+sooner-head : (latest : ℕ) (y x : Number) → is_earlier (comes_at y) (comes_at x) ≡ true → latest ≤ moment_or x latest
+    → ComesBehind latest (moment_or y latest) x
+sooner-head latest (number.Skipped reason) x e le = record { le = le; same = refl }
+sooner-head latest (number.Arrival found) (number.Arrival other) e le =
+    let less = ltb-true found.moment other.moment e in record { le = omega (arith, less); same = refl }
+sooner-head latest (number.Arrival found) (number.Skipped reason) e le = absurd (cc e)
+
+-- these came in order, and so does what is left of both
+record GoOn (past xs ys : List (Item Number)) : Type 0 where
+  ordered : AreOrdered past
+  first : Ascend (latest_of past) xs
+  second : Ascend (latest_of past) ys
+
+after-first : (latest : ℕ) (x : Item Number) (ys : List (Item Number)) → IsNext by_moment x ys → Ascend latest ys
+    → Ascend (moment_or x.head latest) ys
+after-first latest x [] is a = tt
+after-first latest x (y ∷ ys) is a =
+    ascend-behind latest (moment_or x.head latest) y ys (next-head latest x.head y.head is a.0) a
+
+after-second : (latest : ℕ) (y : Item Number) (xs : List (Item Number)) → IsSooner by_moment y xs → Ascend latest xs
+    → Ascend (moment_or y.head latest) xs
+after-second latest y [] is a = tt
+after-second latest y (x ∷ xs) is a =
+    ascend-behind latest (moment_or y.head latest) x xs (sooner-head latest y.head x.head is a.0) a
+
+one-first : (past : Numbers) (x : Item Number) (xs ys : List (Item Number)) → IsNext by_moment x ys
+    → GoOn past (x ∷ xs) ys → GoOn (x ∷ past) xs ys
 unfolding latest_of
-put-ordered past x h le = (le, h)
+one-first past x xs ys is h = record {
+  ordered = (h.first.0, h.ordered);
+  first = h.first.1;
+  second = after-first (latest_of past) x ys is h.second;
+}
 
-latest-put : (past : Numbers) (x : Item Number) → moment_or x.head (latest_of past) ≡ latest_of (x ∷ past)
+one-second : (past : Numbers) (y : Item Number) (xs ys : List (Item Number)) → IsSooner by_moment y xs
+    → GoOn past xs (y ∷ ys) → GoOn (y ∷ past) xs ys
 unfolding latest_of
-latest-put past x = refl
-
-rest-ordered : (past : Numbers) (ys : List (Item Number)) (fault : Option RunFault) → AreOrdered past
-    → Ascend (latest_of past) ys → AreOrdered (rest_of_b past ys fault).numbers
-unfolding rest_of_b
-rest-ordered past [] fault h a = h
-rest-ordered past (y ∷ ys) fault h a =
-    rest-ordered (y ∷ past) ys fault (put-ordered past y h a.0)
-    (subst (λ (m : ℕ). Ascend m ys) (latest-put past y) a.1)
-
-behind-ordered : (past : Numbers) (fault_a : Option RunFault) (ys : List (Item Number)) (fault_b : Option RunFault)
-    → AreOrdered past → Ascend (latest_of past) ys → AreOrdered (behind_a past fault_a ys fault_b).numbers
-behind-ordered past (Some fault) ys fault_b h a = h
-behind-ordered past None ys fault_b h a = rest-ordered past ys fault_b h a
-
--- the head of B is looked at
-first-of-b : (latest : ℕ) (x : FoundFrame) (y : Number) → latest ≤ x.moment → is_first y (number.Arrival x) ≡ true
-    → moment_or y latest ≤ x.moment
-first-of-b latest x (number.Arrival found) le e =
-    let lt = ltb-true found.moment x.moment e in omega (arith, lt)
-first-of-b latest x (number.Skipped reason) le e = le
-
-rest-of-b : (latest : ℕ) (x : FoundFrame) (y : Item Number) (ys : List (Item Number))
-    → is_first y.head (number.Arrival x) ≡ false → Ascend latest (y ∷ ys) → Ascend x.moment (y ∷ ys)
-rest-of-b latest x y ys e a = by y.head refl
-  where
-    by : (head : Number) → y.head ≡ head → Ascend x.moment (y ∷ ys)
-    by (number.Arrival found) is =
-        let le = ltb-false found.moment x.moment (sym (ap (λ h. is_first h (number.Arrival x)) is) ∙ e) in
-        let rest : Ascend found.moment ys = subst (λ (h : Number). Ascend (moment_or h latest) ys) is a.1 in (
-          subst (λ (h : Number). x.moment ≤ moment_or h x.moment) (sym is) le,
-          subst (λ (h : Number). Ascend (moment_or h x.moment) ys) (sym is) rest,
-        )
-    by (number.Skipped reason) is =
-        absurd (cc (sym (ap (λ h. is_first h (number.Arrival x)) is) ∙ e))
-
-module _ (x : Item Number) (found : FoundFrame) (is : x.head ≡ number.Arrival found)
-    (next : Numbers → List (Item Number) → Merged)
-    (f : (past : Numbers) (ys : List (Item Number)) → AreOrdered past → latest_of past ≡ found.moment
-    → Ascend found.moment ys → AreOrdered (next past ys).numbers) where
-  -- it comes
-  next-put : (past : Numbers) (ys : List (Item Number)) → AreOrdered past → latest_of past ≤ found.moment
-      → Ascend found.moment ys → AreOrdered (next (x ∷ past) ys).numbers
-  unfolding latest_of
-  next-put past ys h le a =
-      f (x ∷ past) ys (subst (λ (n : Number). latest_of past ≤ moment_or n (latest_of past)) (sym is) le, h)
-      (ap (λ (n : Number). moment_or n (latest_of past)) is) a
-
-  head-ordered : (past : Numbers) (ys : List (Item Number)) (fault : Option RunFault) → AreOrdered past
-      → latest_of past ≤ found.moment → Ascend (latest_of past) ys
-      → AreOrdered (at_head_of_a x next past ys fault).numbers
-  unfolding at_head_of_a
-  head-ordered past [] (Some fault) h le a = h
-  head-ordered past [] None h le a = next-put past [] h le tt
-  head-ordered past (y ∷ ys) fault h le a =
-      by (is_first y.head x.head) refl (λ o le' c. head-ordered (y ∷ past) ys fault o le' c)
-    where
-      by : (t : Bool) → is_first y.head x.head ≡ t
-          → (AreOrdered (y ∷ past) → latest_of (y ∷ past) ≤ found.moment → Ascend (latest_of (y ∷ past)) ys
-          → AreOrdered (at_head_of_a x next (y ∷ past) ys fault).numbers)
-          → AreOrdered (if◌then◌else◌ {A = Merged} t (at_head_of_a x next (y ∷ past) ys fault)
-          (next (x ∷ past) (y ∷ ys))).numbers
-      by true e more =
-          let le' = first-of-b (latest_of past) found y.head le
-          (sym (ap (λ h. is_first y.head h) is) ∙ e) in
-          more (put-ordered past y h a.0)
-          (subst (λ (m : ℕ). m ≤ found.moment) (latest-put past y) le')
-          (subst (λ (m : ℕ). Ascend m ys) (latest-put past y) a.1)
-      by false e more =
-          next-put past (y ∷ ys) h le
-          (rest-of-b (latest_of past) found y ys (sym (ap (λ h. is_first y.head h) is) ∙ e) a)
-
-merge-ordered : (past : Numbers) (xs : List (Item Number)) (fault_a : Option RunFault) (ys : List (Item Number))
-    (fault_b : Option RunFault) → AreOrdered past → Ascend (latest_of past) xs → Ascend (latest_of past) ys
-    → AreOrdered (merge past xs fault_a ys fault_b).numbers
-unfolding merge latest_of
-merge-ordered past [] fault_a ys fault_b h a b = behind-ordered past fault_a ys fault_b h b
-merge-ordered past (x ∷ xs) fault_a ys fault_b h a b =
-    by x.head refl (λ before ys o c d. merge-ordered before xs fault_a ys fault_b o c d)
-  where
-    by : (head : Number) → x.head ≡ head
-        → ((before : Numbers) (ys : List (Item Number)) → AreOrdered before → Ascend (latest_of before) xs
-        → Ascend (latest_of before) ys → AreOrdered (merge before xs fault_a ys fault_b).numbers)
-        → AreOrdered (by_head_of_a head (merge (x ∷ past) xs fault_a ys fault_b)
-        (at_head_of_a x (λ before ys. merge before xs fault_a ys fault_b) past ys fault_b)).numbers
-    by (number.Skipped reason) is more = more (x ∷ past) ys (a.0, h) a.1
-        (subst (λ (n : Number). Ascend (moment_or n (latest_of past)) ys) (sym is) b)
-    by (number.Arrival found) is more =
-        head-ordered x found is (λ before ys. merge before xs fault_a ys fault_b)
-        (λ before ys o e c. more before ys o
-        (subst (λ (m : ℕ). Ascend m xs) (ap (λ (n : Number). moment_or n (latest_of past)) is ∙ sym e) a.1)
-        (subst (λ (m : ℕ). Ascend m ys) (sym e) c))
-        past ys fault_b h (subst (λ (n : Number). latest_of past ≤ moment_or n (latest_of past)) is a.0) b
+one-second past y xs ys is h = record {
+  ordered = (h.second.0, h.ordered);
+  first = after-second (latest_of past) y xs is h.first;
+  second = h.second.1;
+}
 
 -- whatever fault stands behind each
 pub merged-ordered : (a b : Numbers) (fault_a fault_b : Option RunFault) → AreOrdered a → AreOrdered b
-    → AreOrdered (merged (record { next = reverse a; fault = fault_a })
-    (record { next = reverse b; fault = fault_b })).numbers
+    → AreOrdered (both_numbers (record { next = reverse a; fault = fault_a })
+    (record { next = reverse b; fault = fault_b })).items
 unfolding latest_of
 merged-ordered a b fault_a fault_b h k =
-    merge-ordered [] (reverse a) fault_a (reverse b) fault_b tt (ascend-reverse a h) (ascend-reverse b k)
+    let start : GoOn [] (reverse a) (reverse b) =
+    record { ordered = tt; first = ascend-reverse a h; second = ascend-reverse b k } in
+    (merge-keeps by_moment GoOn (record { first = one-first; second = one-second })
+    [] (reverse a) fault_a (reverse b) fault_b start).so.ordered
 
 -- ---- their lines
 

@@ -2,6 +2,7 @@ pub mod Causes
 pub mod Engine
 pub mod Lists
 pub mod Listed
+pub mod Merging
 pub mod MergedSource
 pub mod Items
 pub mod Stops
@@ -23,7 +24,6 @@ pub mod Entering
 pub mod Placing
 pub mod Tapping
 pub mod Timing
-pub mod Merging
 pub mod Taking
 pub mod RecordingSource
 pub mod OrderedSource

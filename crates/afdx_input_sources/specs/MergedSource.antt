@@ -12,6 +12,7 @@ use Rattle.afdx_input_sources.specs.declared.ahead.AtHead.TheVariants as at
 use Rattle.afdx_input_sources.specs.declared.merged.Merged.{Merged}
 use Rattle.afdx_input_sources.specs.declared.merged.Nth.{Nth}
 use Rattle.afdx_input_sources.specs.declared.merged.Nth.TheVariants.{First, Second}
+use Rattle.afdx_input_sources.specs.Merging.{is_earlier}
 
 -- the time of an item, if it has one; and no source gives more items than so many
 pub record Order (H : Type 0) : Type 0 where
@@ -63,12 +64,6 @@ abbrev pub front_by : {H : Type 0} → AtHead → Item H → Front H
 front_by at.Unknown x = Unsought
 front_by (at.Item time) x = Stands x
 front_by at.Over x = Gone
-
--- of the second, what comes at this time comes before what has that time
-abbrev pub is_earlier : Option ℕ → Option ℕ → Bool
-is_earlier (Some y) (Some x) = nat_lt y x
-is_earlier None (Some x) = true
-is_earlier y None = false
 
 module _ {H : Type 0} (time : H → Option ℕ) where
   -- an item of the first, of this time, comes before what stands of the second

@@ -1,59 +1,68 @@
--- The sequences of two recordings as one. The head of each is looked for, that of A first. A
--- skipped number, and a fault, come as soon as they are found. Else the earlier arrival comes, that
--- of A where both have the same moment.
-use Rattle.std.specs.Prelude.{Bool, true, false, nat_lt, List, [], ◌∷◌, Option, Some, None, if◌then◌else◌}
+-- What comes of two sources as one, by time. The head of each is looked for, that of the first
+-- first. What has no time, and a fault, come as soon as they are found. Else the earlier item
+-- comes, that of the first where both have the same time.
+use Rattle.std.specs.Prelude.{ℕ, Bool, true, false, nat_lt, List, [], ◌∷◌, Option, Some, None, if◌then◌else◌}
 use Rattle.afdx_input_lines.specs.declared.fault.RunFault.{RunFault}
-use Rattle.afdx_input_sources.specs.Engine.{Item}
-use Rattle.afdx_input_sources.specs.declared.number.Number.{Number}
-use Rattle.afdx_input_sources.specs.declared.number.Number.TheVariants.{Arrival, Skipped}
-use Rattle.afdx_input_sources.specs.Sequences.{Numbers}
+use Rattle.afdx_input_sources.specs.declared.merged.Nth.{Nth}
+use Rattle.afdx_input_sources.specs.declared.merged.Nth.TheVariants.{First, Second}
 
--- numbers of both, the newest first, and the fault that stands behind them
-pub record Merged : Type 0 where
-  pub numbers : Numbers
+-- when an item of either source comes, if it has a time, and what it is as one of both
+pub record ByTime (X Z : Type 0) : Type 0 where
+  pub time : X → Option ℕ
+  pub as_one : Nth → X → Z
+
+-- items that come, the next one first, and the fault that stands behind them
+pub record Coming (X : Type 0) : Type 0 where
+  pub next : List X
   pub fault : Option RunFault
 
--- numbers that come, the next one first, and the fault that stands behind them
-pub record Coming : Type 0 where
-  pub next : List (Item Number)
+-- items of both, the newest first, and the fault that stands behind them
+pub record Merged (Z : Type 0) : Type 0 where
+  pub items : List Z
   pub fault : Option RunFault
 
--- this number of B comes before the arrival that stands at the head of A
-abbrev pub is_first : Number → Number → Bool
-is_first (Arrival y) (Arrival x) = nat_lt y.moment x.moment
-is_first (Arrival y) (Skipped reason) = false
-is_first (Skipped reason) x = true
+abbrev pub merged_as : {Z : Type 0} → List Z → Option RunFault → Merged Z
+merged_as past fault = record { items = past; fault = fault }
 
--- A is at its end: what is left of B
-unfoldable pub rest_of_b : Numbers → List (Item Number) → Option RunFault → Merged
-rest_of_b past [] fault = record { numbers = past; fault = fault }
-rest_of_b past (y ∷ ys) fault = rest_of_b (y ∷ past) ys fault
+-- of the second, what comes at this time comes before what has that time
+abbrev pub is_earlier : Option ℕ → Option ℕ → Bool
+is_earlier (Some y) (Some x) = nat_lt y x
+is_earlier None (Some x) = true
+is_earlier y None = false
 
-abbrev pub behind_a : Numbers → Option RunFault → List (Item Number) → Option RunFault → Merged
-behind_a past (Some fault) ys fault_b = record { numbers = past; fault = Some fault }
-behind_a past None ys fault_b = rest_of_b past ys fault_b
+-- the first is at its end: what is left of the second
+unfoldable pub rest_of_second : {X Z : Type 0} → ByTime X Z → List Z → List X → Option RunFault →
+    Merged Z
+rest_of_second by past [] fault = merged_as past fault
+rest_of_second by past (y ∷ ys) fault = rest_of_second by (by.as_one Second y ∷ past) ys fault
 
--- an arrival stands at the head of A; `next` is what comes once it is taken
-unfoldable pub at_head_of_a : Item Number → (next : Numbers → List (Item Number) → Merged) →
-    Numbers → List (Item Number) → Option RunFault → Merged
-at_head_of_a x next past [] (Some fault) = record { numbers = past; fault = Some fault }
-at_head_of_a x next past [] None = next (x ∷ past) []
-at_head_of_a x next past (y ∷ ys) fault =
-    if is_first y.head x.head then at_head_of_a x next (y ∷ past) ys fault
-    else next (x ∷ past) (y ∷ ys)
+abbrev pub behind_first : {X Z : Type 0} → ByTime X Z → List Z → Option RunFault → List X →
+    Option RunFault → Merged Z
+behind_first by past (Some fault) ys fault_y = merged_as past (Some fault)
+behind_first by past None ys fault_y = rest_of_second by past ys fault_y
 
-abbrev pub by_head_of_a : Number → (skipped arrival : Merged) → Merged
-by_head_of_a (Skipped reason) skipped arrival = skipped
-by_head_of_a (Arrival found) skipped arrival = arrival
+-- one of this time stands at the head of the first; `next` is what comes once it is taken
+unfoldable pub at_head : {X Z : Type 0} → ByTime X Z → ℕ → X →
+    (next : List Z → List X → Merged Z) → List Z → List X → Option RunFault → Merged Z
+at_head by t x next past [] (Some fault) = merged_as past (Some fault)
+at_head by t x next past [] None = next (by.as_one First x ∷ past) []
+at_head by t x next past (y ∷ ys) fault =
+    if is_earlier (by.time y) (Some t) then at_head by t x next (by.as_one Second y ∷ past) ys fault
+    else next (by.as_one First x ∷ past) (y ∷ ys)
 
--- what comes of A and of B, behind these
-unfoldable pub merge : Numbers → List (Item Number) → (fault_a : Option RunFault) →
-    List (Item Number) → (fault_b : Option RunFault) → Merged
-merge past [] fault_a ys fault_b = behind_a past fault_a ys fault_b
-merge past (x ∷ xs) fault_a ys fault_b =
-    by_head_of_a x.head (merge (x ∷ past) xs fault_a ys fault_b)
-    (at_head_of_a x (λ before ys. merge before xs fault_a ys fault_b) past ys fault_b)
+abbrev pub if_timed : {M : Type 0} → Option ℕ → (timed : ℕ → M) → (at_once : M) → M
+if_timed (Some t) timed at_once = timed t
+if_timed None timed at_once = at_once
+
+-- what comes of the first and of the second, behind these
+unfoldable pub merge : {X Z : Type 0} → ByTime X Z → List Z → List X → Option RunFault → List X →
+    Option RunFault → Merged Z
+merge by past [] fault_x ys fault_y = behind_first by past fault_x ys fault_y
+merge by past (x ∷ xs) fault_x ys fault_y =
+    if_timed (by.time x)
+    (λ t. at_head by t x (λ before ys. merge by before xs fault_x ys fault_y) past ys fault_y)
+    (merge by (by.as_one First x ∷ past) xs fault_x ys fault_y)
 
 -- the two as one
-abbrev pub merged : Coming → Coming → Merged
-merged a b = merge [] a.next a.fault b.next b.fault
+abbrev pub merged : {X Z : Type 0} → ByTime X Z → Coming X → Coming X → Merged Z
+merged by first second = merge by [] first.next first.fault second.next second.fault

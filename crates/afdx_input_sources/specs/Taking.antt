@@ -20,8 +20,8 @@ use Rattle.afdx_input_sources.specs.declared.counts.Tally.{Tally}
 use Rattle.afdx_input_sources.specs.Becoming.{Options}
 use Rattle.afdx_input_sources.specs.Claims.{Ports}
 use Rattle.afdx_input_sources.specs.Counting.{plus_tally}
-use Rattle.afdx_input_sources.specs.Merging.{Coming, merged}
-use Rattle.afdx_input_sources.specs.NumberLines.{Lines, arrivals_listed}
+use Rattle.afdx_input_sources.specs.Merging.{ByTime, Coming, Merged, merged}
+use Rattle.afdx_input_sources.specs.NumberLines.{Lines, arrivals_listed, comes_at}
 use Rattle.afdx_input_sources.specs.Ordering.{Sequence, sequence}
 use Rattle.afdx_input_sources.specs.Timing.{Timed, timed, timed_up_to}
 
@@ -81,20 +81,31 @@ side_of (Skipped reason) = A
 abbrev pub late_of_both : Item Number → RunFault
 late_of_both x = fault_of_network (side_of x.head) (TimeTooLarge x.number)
 
+-- numbers of both as one: an arrival comes at its moment, one that is skipped at once
+abbrev pub by_moment : ByTime (Item Number) (Item Number)
+by_moment = record { time = λ x. comes_at x.head; as_one = λ n x. x }
+
+-- numbers that come of a recording
+abbrev pub ComingNumbers : Type 0
+ComingNumbers = Coming (Item Number)
+
 -- the numbers of a sequence as they come
-abbrev pub coming_of : Side → Sequence → Coming
+abbrev pub coming_of : Side → Sequence → ComingNumbers
 coming_of side sequence = record {
   next = reverse sequence.numbers;
   fault = fault_of (fault_of_network side) sequence.ending;
 }
 
 -- behind those that are known a read fails
-abbrev pub coming_until_read : Sequence → Coming
+abbrev pub coming_until_read : Sequence → ComingNumbers
 coming_until_read sequence = record { next = reverse sequence.known; fault = Some run.Read }
 
-abbrev pub timed_of_both : (said : Option ℕ) → Coming → Coming → Timed
+abbrev pub both_numbers : (a b : ComingNumbers) → Merged (Item Number)
+both_numbers a b = merged by_moment a b
+
+abbrev pub timed_of_both : (said : Option ℕ) → (a b : ComingNumbers) → Timed
 timed_of_both said a b =
-    let all = merged a b in timed_up_to late_of_both said all.numbers all.fault
+    let all = both_numbers a b in timed_up_to late_of_both said all.items all.fault
 
 -- what a run takes of the sequences of network A and of network B
 abbrev pub taken_of_both : (said : Option ℕ) → Sequence → Sequence → Taken

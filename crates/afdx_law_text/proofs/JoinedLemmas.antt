@@ -1,11 +1,14 @@
 -- Two lists that are read at once are recorded.
 use Rattle.std.proofs.Common.{◌≡◌, ℕ, ◌≤◌, ◌<◌, Bool, true, false, List, [], ◌∷◌, ◌++◌, map, reverse, refl, sym, ap, ◌∙◌, subst, arith}
 use Rattle.std.proofs.lemmas.Bool.{ltb-true, ltb-false}
-use Rattle.std.proofs.lemmas.List.{append-nil, append_assoc, reverse-reverse}
+use Rattle.std.proofs.lemmas.List.{append-nil, reverse-reverse}
 use Rattle.std.specs.Prelude.{None, IsTrue, nat_lt, if◌then◌else◌}
 use Rattle.std.specs.List.{AllByRecursion}
 use Rattle.afdx_input_lines.specs.declared.role.Role.TheVariants.{Came, Left}
-use Rattle.afdx_input_runs.specs.Joining.{Frame, Joined, frame_with, join, at_came, rest_of_left}
+use Rattle.afdx_input_sources.specs.Merging.{merge}
+use Rattle.afdx_input_sources.proofs.CameLemmas.{reverse-taken}
+use Rattle.afdx_input_sources.proofs.MergeLemmas.{IsNext, IsSooner, merge-keeps}
+use Rattle.afdx_input_runs.specs.Joining.{Frame, Joined, by_frame_time, frame_with}
 use Rattle.afdx_police.specs.Arrival.{Arrival}
 use Rattle.afdx_network.specs.Events as network
 use Rattle.afdx_network.specs.Events.{Event, Departure}
@@ -14,7 +17,7 @@ use Rattle.afdx_network.proofs.OrderedLemmas.{are-events}
 use Rattle.afdx_law_promises.specs.Lines.{Leaving, leaving}
 use Rattle.afdx_law_promises.proofs.LineLemmas.{departures_in, told-left}
 use Rattle.afdx_conform.specs.Events.{GoUp}
-use Rattle.afdx_conform.proofs.EveryLemmas.{every-on, every-unmap, reverse-first}
+use Rattle.afdx_conform.proofs.EveryLemmas.{every-on, every-unmap}
 use Rattle.afdx_command_conform.specs.Choices.{latest_of}
 use Rattle.afdx_command_conform.specs.RunLaws.{AreByTime}
 use Rattle.afdx_command_conform.specs.Tapped.{all_taps}
@@ -24,78 +27,21 @@ use Rattle.afdx_law_text.proofs.ListLemmas.{Descend, filter-whole}
 use Rattle.afdx_law_text.proofs.TimeLemmas.{go-descend, go-up-list, timed-go}
 use Rattle.afdx_law_text.proofs.NumberLemmas.{same-go}
 
--- what is still to be read of both is no earlier than what was
-record Fits (past : List Frame) (xs ys : List Arrival) : Type 0 where
+-- what is still to be read of both is no earlier than what was, and that all came before
+record Fits (came left : List Arrival) (past : List Frame) (xs ys : List Arrival) : Type 0 where
   pub by_time : AreByTime past
   pub up_came : GoUp (map (λ x. x.time) xs)
   pub up_left : GoUp (map (λ y. y.time) ys)
   pub after_came : AllByRecursion (λ x. latest_of past ≤ x.time) xs
   pub after_left : AllByRecursion (λ y. latest_of past ≤ y.time) ys
+  pub came_are : reverse came ≡ reverse xs ++ came_among past
+  pub left_are : reverse left ≡ reverse ys ++ left_among past
 
 -- the frames are all of both
-record IsBoth (past : List Frame) (xs ys : List Arrival) (r : Joined) : Type 0 where
-  pub came : came_among r.frames ≡ reverse xs ++ came_among past
-  pub left : left_among r.frames ≡ reverse ys ++ left_among past
-  pub by_time : AreByTime r.frames
-
-one-more : (x : Arrival) (xs zs : List Arrival) → reverse xs ++ (x ∷ zs) ≡ reverse (x ∷ xs) ++ zs
-one-more x xs zs = sym (append_assoc (reverse xs) (x ∷ []) zs) ∙ ap (λ (l : List Arrival). l ++ zs)
-    (sym (reverse-first x xs))
-
-fits-left : (past : List Frame) (xs : List Arrival) (y : Arrival) (ys : List Arrival)
-    → AllByRecursion (λ x. y.time ≤ x.time) xs → Fits past xs (y ∷ ys) → Fits (frame_with Left y ∷ past) xs ys
-unfolding AreByTime GoUp
-fits-left past xs y ys before f = record {
-  by_time = (f.after_left.0, f.by_time);
-  up_came = f.up_came;
-  up_left = f.up_left.1;
-  after_came = before;
-  after_left = every-unmap (λ n. y.time ≤ n) (λ (y : Arrival). y.time) ys f.up_left.0;
-}
-
-fits-came : (past : List Frame) (x : Arrival) (xs ys : List Arrival)
-    → AllByRecursion (λ y. x.time ≤ y.time) ys → Fits past (x ∷ xs) ys → Fits (frame_with Came x ∷ past) xs ys
-unfolding AreByTime GoUp
-fits-came past x xs ys before f = record {
-  by_time = (f.after_came.0, f.by_time);
-  up_came = f.up_came.1;
-  up_left = f.up_left;
-  after_came = every-unmap (λ n. x.time ≤ n) (λ (x : Arrival). x.time) xs f.up_came.0;
-  after_left = before;
-}
-
-with-left : (past : List Frame) (xs : List Arrival) (y : Arrival) (ys : List Arrival) (r : Joined)
-    → IsBoth (frame_with Left y ∷ past) xs ys r → IsBoth past xs (y ∷ ys) r
-with-left past xs y ys r is = record {
-  came = is.came;
-  left = is.left ∙ one-more y ys (left_among past);
-  by_time = is.by_time;
-}
-
-with-came : (past : List Frame) (x : Arrival) (xs ys : List Arrival) (r : Joined)
-    → IsBoth (frame_with Came x ∷ past) xs ys r → IsBoth past (x ∷ xs) ys r
-with-came past x xs ys r is = record {
-  came = is.came ∙ one-more x xs (came_among past);
-  left = is.left;
-  by_time = is.by_time;
-}
-
-rest-is : (past : List Frame) (ys : List Arrival) → Fits past [] ys → IsBoth past [] ys (rest_of_left past ys None)
-unfolding rest_of_left
-rest-is past [] f = record { came = refl; left = refl; by_time = f.by_time }
-rest-is past (y ∷ ys) f =
-    with-left past [] y ys (rest_of_left (frame_with Left y ∷ past) ys None)
-    (rest-is (frame_with Left y ∷ past) ys (fits-left past [] y ys tt f))
-
-up-first : (past : List Frame) (x : Arrival) (xs ys : List Arrival) → Fits past (x ∷ xs) ys
-    → AllByRecursion (λ w. x.time ≤ w.time) xs
-unfolding GoUp
-up-first past x xs ys f = every-unmap (λ n. x.time ≤ n) (λ (x : Arrival). x.time) xs f.up_came.0
-
-up-second : (past : List Frame) (xs : List Arrival) (y : Arrival) (ys : List Arrival) → Fits past xs (y ∷ ys)
-    → AllByRecursion (λ w. y.time ≤ w.time) ys
-unfolding GoUp
-up-second past xs y ys f = every-unmap (λ n. y.time ≤ n) (λ (x : Arrival). x.time) ys f.up_left.0
+record IsBoth (came left : List Arrival) (r : Joined) : Type 0 where
+  pub came_are : came_among r.items ≡ reverse came
+  pub left_are : left_among r.items ≡ reverse left
+  pub by_time : AreByTime r.items
 
 left-first : (x : Arrival) (xs : List Arrival) (y : Arrival) → AllByRecursion (λ w. x.time ≤ w.time) xs
     → y.time < x.time
@@ -114,36 +60,70 @@ came-first x y ys all below = (
       (λ w h. omega (arith, h, below)) ys all,
 )
 
-at-came-is : (x : Arrival) (xs : List Arrival) (next : List Frame → List Arrival → Joined)
-    → ((past : List Frame) (ys : List Arrival) → Fits past xs ys → IsBoth past xs ys (next past ys))
-    → (past : List Frame) (ys : List Arrival) → Fits past (x ∷ xs) ys
-    → IsBoth past (x ∷ xs) ys (at_came x next past ys None)
-unfolding at_came
-at-came-is x xs next is past [] f =
-    with-came past x xs [] (next (frame_with Came x ∷ past) [])
-    (is (frame_with Came x ∷ past) [] (fits-came past x xs [] tt f))
-at-came-is x xs next is past (y ∷ ys) f =
-    by (nat_lt y.time x.time) refl (λ g. at-came-is x xs next is (frame_with Left y ∷ past) ys g)
-  where
-    by : (b : Bool) → nat_lt y.time x.time ≡ b
-        → (Fits (frame_with Left y ∷ past) (x ∷ xs) ys
-        → IsBoth (frame_with Left y ∷ past) (x ∷ xs) ys (at_came x next (frame_with Left y ∷ past) ys None))
-        → IsBoth past (x ∷ xs) (y ∷ ys) (if b then at_came x next (frame_with Left y ∷ past) ys None
-        else next (frame_with Came x ∷ past) (y ∷ ys))
-    by true e later =
-        with-left past (x ∷ xs) y ys (at_came x next (frame_with Left y ∷ past) ys None)
-        (later (fits-left past (x ∷ xs) y ys
-        (left-first x xs y (up-first past x xs (y ∷ ys) f) (ltb-true y.time x.time e)) f))
-    by false e later =
-        with-came past x xs (y ∷ ys) (next (frame_with Came x ∷ past) (y ∷ ys))
-        (is (frame_with Came x ∷ past) (y ∷ ys) (fits-came past x xs (y ∷ ys)
-        (came-first x y ys (up-second past (x ∷ xs) y ys f) (ltb-false y.time x.time e)) f))
+module _ (came left : List Arrival) where
+  fits-left : (past : List Frame) (xs : List Arrival) (y : Arrival) (ys : List Arrival)
+      → AllByRecursion (λ x. y.time ≤ x.time) xs → Fits came left past xs (y ∷ ys)
+      → Fits came left (frame_with Left y ∷ past) xs ys
+  unfolding AreByTime GoUp
+  fits-left past xs y ys before f = record {
+    by_time = (f.after_left.0, f.by_time);
+    up_came = f.up_came;
+    up_left = f.up_left.1;
+    after_came = before;
+    after_left = every-unmap (λ n. y.time ≤ n) (λ (y : Arrival). y.time) ys f.up_left.0;
+    came_are = f.came_are;
+    left_are = f.left_are ∙ reverse-taken y ys (left_among past);
+  }
 
-join-is : (past : List Frame) (xs ys : List Arrival) → Fits past xs ys → IsBoth past xs ys (join past xs None ys None)
-unfolding join
-join-is past [] ys f = rest-is past ys f
-join-is past (x ∷ xs) ys f =
-    at-came-is x xs (λ before ys. join before xs None ys None) (λ before zs g. join-is before xs zs g) past ys f
+  fits-came : (past : List Frame) (x : Arrival) (xs ys : List Arrival)
+      → AllByRecursion (λ y. x.time ≤ y.time) ys → Fits came left past (x ∷ xs) ys
+      → Fits came left (frame_with Came x ∷ past) xs ys
+  unfolding AreByTime GoUp
+  fits-came past x xs ys before f = record {
+    by_time = (f.after_came.0, f.by_time);
+    up_came = f.up_came.1;
+    up_left = f.up_left;
+    after_came = every-unmap (λ n. x.time ≤ n) (λ (x : Arrival). x.time) xs f.up_came.0;
+    after_left = before;
+    came_are = f.came_are ∙ reverse-taken x xs (came_among past);
+    left_are = f.left_are;
+  }
+
+  up-first : (past : List Frame) (x : Arrival) (xs ys : List Arrival) → Fits came left past (x ∷ xs) ys
+      → AllByRecursion (λ w. x.time ≤ w.time) xs
+  unfolding GoUp
+  up-first past x xs ys f = every-unmap (λ n. x.time ≤ n) (λ (x : Arrival). x.time) xs f.up_came.0
+
+  up-second : (past : List Frame) (xs : List Arrival) (y : Arrival) (ys : List Arrival)
+      → Fits came left past xs (y ∷ ys) → AllByRecursion (λ w. y.time ≤ w.time) ys
+  unfolding GoUp
+  up-second past xs y ys f = every-unmap (λ n. y.time ≤ n) (λ (x : Arrival). x.time) ys f.up_left.0
+
+  came-next : (past : List Frame) (x : Arrival) (xs ys : List Arrival) → IsNext by_frame_time x ys
+      → Fits came left past (x ∷ xs) ys → Fits came left (frame_with Came x ∷ past) xs ys
+  came-next past x xs [] is f = fits-came past x xs [] tt f
+  came-next past x xs (y ∷ ys) is f =
+      fits-came past x xs (y ∷ ys)
+      (came-first x y ys (up-second past (x ∷ xs) y ys f) (ltb-false y.time x.time is)) f
+
+  left-next : (past : List Frame) (y : Arrival) (xs ys : List Arrival) → IsSooner by_frame_time y xs
+      → Fits came left past xs (y ∷ ys) → Fits came left (frame_with Left y ∷ past) xs ys
+  left-next past y [] ys is f = fits-left past [] y ys tt f
+  left-next past y (x ∷ xs) ys is f =
+      fits-left past (x ∷ xs) y ys
+      (left-first x xs y (up-first past x xs (y ∷ ys) f) (ltb-true y.time x.time is)) f
+
+  both-are : Fits came left [] came left → IsBoth came left (merge by_frame_time [] came None left None)
+  both-are f =
+      let r = merge by_frame_time [] came None left None in
+      let end = merge-keeps by_frame_time (Fits came left) (record { first = came-next; second = left-next }) [] came
+      None left None f in
+      let none = end.whole (end.sound refl refl) in
+      record {
+        came_are = sym (end.so.came_are ∙ ap (λ (l : List Arrival). reverse l ++ came_among r.items) none.0);
+        left_are = sym (end.so.left_are ∙ ap (λ (l : List Arrival). reverse l ++ left_among r.items) none.1);
+        by_time = end.so.by_time;
+      }
 
 -- ---- lists
 
@@ -176,22 +156,24 @@ all-after (x ∷ xs) = (omega arith, all-after xs)
 
 pub lists-recorded : ListsAreRecorded
 lists-recorded arrivals came left records timed same order are =
-    let is = join-is [] (reverse came) (reverse records) (record {
+    let is = both-are (reverse came) (reverse records) (record {
       by_time = nothing-past;
       up_came = go-up-list came (go-descend came (same-go arrivals came same (timed-go arrivals timed)));
       up_left = go-up-list records (records-descend left records order are);
       after_came = all-after (reverse came);
       after_left = all-after (reverse records);
+      came_are = sym (append-nil (reverse (reverse came)));
+      left_are = sym (append-nil (reverse (reverse records)));
     }) in
     record {
       came_are = subst (λ (xs : List Arrival). AreSameArrivals xs (came_among (both_lists came records)))
           (sym (filter-whole (λ (x : Arrival). all_taps Came x.side x.port) arrivals (every arrivals)))
           (subst (λ (ys : List Arrival). AreSameArrivals arrivals ys)
-          (sym (is.came ∙ append-nil (reverse (reverse came)) ∙ reverse-reverse came)) same);
+          (sym (is.came_are ∙ reverse-reverse came)) same);
       left_are = subst (λ (ds : List Leaving). AreRecordsOf ds (left_among (both_lists came records)))
           (sym (filter-whole (λ (d : Leaving). all_taps Left d.side d.port) left (every left)))
           (subst (λ (ys : List Arrival). AreRecordsOf left ys)
-          (sym (is.left ∙ append-nil (reverse (reverse records)) ∙ reverse-reverse records)) are);
+          (sym (is.left_are ∙ reverse-reverse records)) are);
       by_time = is.by_time;
     }
   where

@@ -64,4 +64,4 @@ list_of xs = record { next = reverse xs; fault = None }
 
 -- of two that are read at once, what came in and what left
 abbrev pub both_lists : (came left : List Arrival) → List Frame
-both_lists came left = (joined (list_of came) (list_of left)).frames
+both_lists came left = (joined (list_of came) (list_of left)).items

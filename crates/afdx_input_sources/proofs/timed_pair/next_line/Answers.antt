@@ -2,7 +2,7 @@ use Rattle.std.proofs.Common.{rules, ◌≡◌, refl, ◌∷◌, inr}
 use Rattle.afdx_input_sources.specs.MergedSource.{given, items_of}
 use Rattle.afdx_input_sources.specs.Taking.{late_of_both}
 use Rattle.afdx_input_sources.proofs.ClockLemmas.{clock-more, clock-follows, clock-late}
-use Rattle.afdx_input_sources.proofs.MergeLemmas.{paired-follows}
+use Rattle.afdx_input_sources.proofs.PairedLemmas.{paired-follows}
 use Rattle.afdx_input_sources.proofs.timed_pair.next_line.Goals as goal
 
 pub returns-in_default-clause-stop : goal.returns-in_default-clause-stop

@@ -1,5 +1,5 @@
 use Rattle.std.proofs.Common.{arith, ◌∷◌}
-use Rattle.afdx_input_sources.proofs.MergeLemmas.{latest-numbers}
+use Rattle.afdx_input_sources.proofs.PairedLemmas.{latest-numbers}
 use Rattle.afdx_input_sources.proofs.number.NumberInOrder.keeps.Goals as goal
 
 pub returns : goal.returns
