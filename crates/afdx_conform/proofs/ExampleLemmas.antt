@@ -1,7 +1,7 @@
 -- A right switch, of which one frame was recorded.
 use Rattle.std.proofs.Common.{[], ◌∷◌, refl, arith}
 use Rattle.std.specs.Prelude.{None}
-use Rattle.afdx_frame.specs.declared.link.Policing.TheVariants.{LeftFrame}
+use Rattle.afdx_frame.specs.declared.link.Policing.TheVariants.{Frame}
 use Rattle.afdx_frame.specs.declared.link.Side.TheVariants.{A}
 use Rattle.afdx_police.specs.Arrival.{arrival_with}
 use Rattle.afdx_police.specs.Rule.{rule_with}
@@ -11,7 +11,7 @@ use Rattle.afdx_conform.specs.Right.{Asked, accepted_after, accepted_asked, GoBy
 
 terms : Terms
 terms = record {
-  rule = rule_with 1 1 1 64 64 500 LeftFrame;
+  rule = rule_with 1 1 1 64 64 500 Frame;
   latency_ns = 17000;
   byte_ns = 80;
   by = record { slack = 1; between = 20000; drift = 100; inner = 0; asked = 10; start = None };

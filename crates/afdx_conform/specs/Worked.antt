@@ -1,7 +1,7 @@
 -- Worked rows of what is found: one link of 64-byte frames, one a millisecond, its latency 17 us,
 -- on a line of 80 ns a byte, with exact stamps and clocks, but where recorders are apart.
 use Rattle.std.specs.Prelude.{◌≡◌, ℕ, None, List, [], ◌∷◌}
-use Rattle.afdx_frame.specs.declared.link.Policing.TheVariants.{LeftFrame}
+use Rattle.afdx_frame.specs.declared.link.Policing.TheVariants.{Frame}
 use Rattle.afdx_frame.specs.declared.link.Side.TheVariants.{A}
 use Rattle.afdx_police.specs.Arrival.{arrival_with}
 use Rattle.afdx_police.specs.Rule.{rule_with}
@@ -24,7 +24,7 @@ frame_bytes =
 -- the recorders are so far apart, and arrivals are known up to this time
 abbrev pub terms_apart : ℕ → ℕ → Terms
 terms_apart between until = record {
-  rule = rule_with 1 1 1 64 64 500 LeftFrame;
+  rule = rule_with 1 1 1 64 64 500 Frame;
   latency_ns = 17000;
   byte_ns = 80;
   by = leeway_with 0 between 0 0 0 None;
