@@ -28,14 +28,14 @@ product a b m n h k =
     let right : m * n ≡ n * m = grind arith in
     omega (arith, one, two, left, right)
 
-pub in-range : (smax ms j d s q : ℕ) → smax ≤ 1538 → 0 < ms → ms ≤ 128 → j ≤ 1000 * ms + 100000
+pub in-range : (smax fill ms j d s q : ℕ) → smax ≤ 1538 → fill ≡ 1000000 * ms + 1000 * j → 0 < ms → ms ≤ 128
+    → j ≤ 1000 * ms + 100000
     → d ≤ 1000 → s ≤ 1000000 → q ≤ 1000000
-    → AreInRange (1000000 * (smax * (1000000 * ms + 1000 * j))) (smax * (1000000 + d) * (s + s + q))
+    → AreInRange (1000000 * (smax * fill)) (smax * (1000000 + d) * (s + s + q))
     (smax * (1000000 - d) * (s + s + q)) (1000000 * (1000000 * ms))
-in-range smax ms j d s q a some b c e f g =
-    let fill : 1000000 * ms + 1000 * j ≤ 356000000 = omega (arith, b, c) in
-    let one : smax * (1000000 * ms + 1000 * j) ≤ 1538 * 356000000 =
-    product smax (1000000 * ms + 1000 * j) 1538 356000000 a fill in
+in-range smax fill ms j d s q a is some b c e f g =
+    let most : fill ≤ 356000000 = omega (arith, is, b, c) in
+    let one : smax * fill ≤ 1538 * 356000000 = product smax fill 1538 356000000 a most in
     let two : smax * (1000000 + d) ≤ 1538 * 1001000 = product smax (1000000 + d) 1538 1001000 a (omega (arith, e)) in
     let three : smax * (1000000 + d) * (s + s + q) ≤ 1538 * 1001000 * 3000000 =
     product (smax * (1000000 + d)) (s + s + q) (1538 * 1001000) 3000000 two (omega (arith, f, g)) in
