@@ -21,7 +21,7 @@ use Rattle.afdx_conform.specs.declared.leeway.Leeway.{Leeway}
 use Rattle.afdx_conform.specs.declared.limits.LeftFrame as left
 use Rattle.afdx_conform.specs.declared.streaming.Stream.{Stream}
 use Rattle.afdx_frame.specs.declared.link.Side.{Side}
-use Rattle.afdx_input_runs.specs.Joining.{LeftFrame}
+use Rattle.afdx_input_runs.specs.Joining.{Frame}
 use Rattle.afdx_police.specs.Arrival.{Arrival}
 use Rattle.afdx_command_conform.specs.Awaited.{rank_of}
 use Rattle.afdx_command_conform.specs.Choices.{Choices, counts}
@@ -154,9 +154,9 @@ TellsFirst done old new entry ended =
 
 -- a frame that counts, of no earlier time than those before it, is the newest that they stand for;
 -- `named` is the place of the link that it names
-abbrev pub StandsForMore : (Type 0 → Type 0) → Streams → Streams → Option ℕ → LeftFrame → Type 0
+abbrev pub StandsForMore : (Type 0 → Type 0) → Streams → Streams → Option ℕ → Frame → Type 0
 StandsForMore done old new named x =
-    (t : Rows) (c : Choices) (until time : ℕ) (frames : List LeftFrame) (lines : List Due) →
+    (t : Rows) (c : Choices) (until time : ℕ) (frames : List Frame) (lines : List Due) →
     named ≡ place_named old.tables.now x.arrival.bytes → counts t c x ≡ true →
     time ≤ x.arrival.time → IsBehindAll x.arrival.time frames → length frames + 1 < most_held →
     old.ended ≡ None → StreamsStand t c until frames lines time old →
