@@ -159,9 +159,9 @@ module _ (k : Rows × Choices) (frames : List Frame) where
       → AreBefore last time dues
       → (d : List Due) × (lines_of d ≡ lines_of dues ++ more) × StreamsStand k.0 k.1 until frames d time i.streams
       × AreBefore last time d)
-      → i.streams.ended ≡ j.streams.ended → i.is_over ≡ j.is_over
+      → i.streams.ended ≡ j.streams.ended
       → Stands k last time j frames lines → Stands k last time i frames (lines ++ more)
-  stands-to last time j i lines more next ended over stands = record {
+  stands-to last time j i lines more next ended stands = record {
     all = λ until may.
         let old = stands.all until (subst (λ e. MayEnd k.1.until frames e until) ended may) in
         let new = next until old.dues old.streams old.early in
@@ -169,7 +169,6 @@ module _ (k : Rows × Choices) (frames : List Frame) where
     by_time = stands.by_time;
     running = λ end none said. stands.running end (sym ended ∙ none) said;
     ends = λ end is. stands.ends end (sym ended ∙ is);
-    over = over ∙ stands.over ∙ ap (λ e. is_some e) (sym ended);
   }
 
   -- with the lines of one moment that are taken
@@ -179,16 +178,16 @@ module _ (k : Rows × Choices) (frames : List Frame) where
       → ((until : ℕ) (dues : List Due) → StreamsStand k.0 k.1 until frames dues time j.streams
       → StreamsStand k.0 k.1 until frames (told_at key m items dues) time i.streams)
       → (last ≡ false → m < time)
-      → i.streams.ended ≡ j.streams.ended → i.is_over ≡ j.is_over
+      → i.streams.ended ≡ j.streams.ended
       → Stands k last time j frames lines → Stands k last time i frames (lines ++ out)
-  stands-taken last time j i lines out key m items same next early ended over stands =
+  stands-taken last time j i lines out key m items same next early ended stands =
       stands-to last time j i lines out
       (λ until dues s before. (
         told_at key m items dues,
         lines-told key m items dues ∙ ap (λ x. lines_of dues ++ x) (sym same),
         next until dues s,
         λ e. told-before key m time items dues (early e) (before e),
-      )) ended over stands
+      )) ended stands
 
   pub stands-later : (last after : Bool) → (after ≡ false → last ≡ false)
       → (time to : ℕ) (j : JudgingRun) (lines : List ConformLine)
@@ -207,18 +206,17 @@ module _ (k : Rows × Choices) (frames : List Frame) where
     by_time = stands.by_time;
     running = running;
     ends = ends;
-    over = stands.over;
   }
 
   -- the end is known
   pub stands-ended : (after : Bool) (time until to : ℕ) (j i : JudgingRun) (lines : List ConformLine) → time ≤ until
       → until ≤ to
       → latest_of frames ≤ until → IsEndFor k.1.until frames until → IsEnding after k.1.until frames to until
-      → j.streams.ended ≡ None → i.streams.ended ≡ Some until → i.is_over ≡ true
+      → j.streams.ended ≡ None → i.streams.ended ≡ Some until
       → ((dues : List Due) → StreamsStand k.0 k.1 until frames dues time j.streams
       → StreamsStand k.0 k.1 until frames dues time i.streams)
       → Stands k false time j frames lines → Stands k after to i frames lines
-  stands-ended after time until to j i lines le-until le-to le-latest may ending none ended over next stands = record {
+  stands-ended after time until to j i lines le-until le-to le-latest may ending none ended next stands = record {
     all = λ u at.
         let same : u ≡ until = subst (λ e. MayEnd k.1.until frames e u) ended at in
         let old = stands.all until (subst (λ e. MayEnd k.1.until frames e until) (sym none) may) in
@@ -234,7 +232,6 @@ module _ (k : Rows × Choices) (frames : List Frame) where
     running = λ end no said. let bad : None ≡ Some until = sym no ∙ ended in absurd (cc);
     ends = λ end is. let same : until ≡ end = same_Some until end (sym ended ∙ is) in subst
         (λ n. IsEnding after k.1.until frames to n) same ending;
-    over = over ∙ sym (ap (λ e. is_some e) ended);
   }
 
   pub raised : (time to : ℕ) (j : JudgingRun) (lines : List ConformLine) → time ≤ to
@@ -242,15 +239,6 @@ module _ (k : Rows × Choices) (frames : List Frame) where
       → Stands k false time j frames lines → Stands k false to j frames lines
   raised time to j lines le running stands = stands-later false false (λ e. e) time to j lines le running
       (λ end is. let e = stands.ends end is in (e.0, let lt = e.1 in omega (arith, lt, le))) stands
-
-  pub not-ended : (time : ℕ) (j : JudgingRun) (lines : List ConformLine) → j.is_over ≡ false
-      → Stands k false time j frames lines
-      → j.streams.ended ≡ None
-  not-ended time j lines over stands = by j.streams.ended (sym stands.over ∙ over)
-    where
-      by : (o : Option ℕ) → is_some o ≡ false → o ≡ None
-      by None e = refl
-      by (Some n) e = absurd (true≢false e)
 
   -- once all came, the end that was said is it
   pub stands-last : (time : ℕ) (j : JudgingRun) (lines : List ConformLine) → Stands k false time j frames lines
@@ -263,6 +251,10 @@ pub some-end : (said : Option ℕ) (frames : List Frame) (ended : Option ℕ) �
 some-end None frames None = (latest_of frames, omega arith)
 some-end (Some u) frames None = (u, refl)
 some-end said frames (Some e) = (e, refl)
+
+pub not-ended : (ended : Option ℕ) → is_some ended ≡ false → ended ≡ None
+not-ended None e = refl
+not-ended (Some n) e = absurd (true≢false e)
 
 pub said-end : (said : Option ℕ) (frames : List Frame) (end : ℕ) → said ≡ Some end → IsEndFor said frames end
 said-end None frames end is = absurd (cc is)
@@ -294,16 +286,15 @@ pub stands-same : (k : Rows × Choices) (frames : List Frame) (last : Bool) (tim
     (lines : List ConformLine)
     → ((until : ℕ) (dues : List Due) → StreamsStand k.0 k.1 until frames dues time j.streams
     → StreamsStand k.0 k.1 until frames dues time i.streams)
-    → i.streams.ended ≡ j.streams.ended → i.is_over ≡ j.is_over
+    → i.streams.ended ≡ j.streams.ended
     → Stands k last time j frames lines → Stands k last time i frames lines
-stands-same k frames last time j i lines next ended over stands = record {
+stands-same k frames last time j i lines next ended stands = record {
   all = λ until may.
       let old = stands.all until (subst (λ e. MayEnd k.1.until frames e until) ended may) in
       record { dues = old.dues; are = old.are; streams = next until old.dues old.streams; early = old.early };
   by_time = stands.by_time;
   running = λ end none said. stands.running end (sym ended ∙ none) said;
   ends = λ end is. stands.ends end (sym ended ∙ is);
-  over = over ∙ stands.over ∙ ap (λ e. is_some e) (sym ended);
 }
 
 -- ---- one more frame
@@ -320,9 +311,9 @@ pub stands-next : (k : Rows × Choices) (frames : List Frame) (x : Frame) (j i :
     → latest_of frames ≤ x.arrival.time
     → ((until : ℕ) (dues : List Due) → StreamsStand k.0 k.1 until frames dues x.arrival.time j.streams
     → StreamsStand k.0 k.1 until (x ∷ frames) dues x.arrival.time i.streams)
-    → i.streams.ended ≡ j.streams.ended → i.is_over ≡ j.is_over
+    → i.streams.ended ≡ j.streams.ended
     → Stands k false x.arrival.time j frames lines → Stands k false x.arrival.time i (x ∷ frames) lines
-stands-next k frames x j i lines le next ended over stands = record {
+stands-next k frames x j i lines le next ended stands = record {
   all = λ until may.
       let old = stands.all until (subst (λ e. MayEnd k.1.until frames e until) ended
       (may-before k.1.until frames x i.streams.ended until le may)) in
@@ -330,18 +321,16 @@ stands-next k frames x j i lines le next ended over stands = record {
   by_time = (omega arith, behind-later frames x.arrival.time le stands.by_time);
   running = λ end none said. stands.running end (sym ended ∙ none) said;
   ends = λ end is. stands.ends end (sym ended ∙ is);
-  over = over ∙ stands.over ∙ ap (λ e. is_some e) (sym ended);
 }
 
 pub next-on : {V E : Type 0} (r : Result V E) (k : Rows × Choices) (frames : List Frame) (x : Frame) (j i : JudgingRun)
     (lines : List ConformLine) → latest_of frames ≤ x.arrival.time
     → ((until : ℕ) (dues : List Due) → StreamsStand k.0 k.1 until frames dues x.arrival.time j.streams
     → OnOk r (StreamsStand k.0 k.1 until (x ∷ frames) dues x.arrival.time i.streams))
-    → i.streams.ended ≡ j.streams.ended → i.is_over ≡ j.is_over
+    → i.streams.ended ≡ j.streams.ended
     → Stands k false x.arrival.time j frames lines → OnOk r (Stands k false x.arrival.time i (x ∷ frames) lines)
-next-on (Ok v) k frames x j i lines le next ended over stands = stands-next k frames x j i lines le next ended over
-    stands
-next-on (Err e) k frames x j i lines le next ended over stands = tt
+next-on (Ok v) k frames x j i lines le next ended stands = stands-next k frames x j i lines le next ended stands
+next-on (Err e) k frames x j i lines le next ended stands = tt
 
 and-not : (a b c : Bool) → b ≡ true → (a && not b && c) ≡ false
 and-not true true c e = refl

@@ -9,7 +9,6 @@ pub record IsSameButFindings (old new : JudgingRun) : Type 0 where
   pub streams : new.streams ≡ old.streams
   pub latest : new.latest ≡ old.latest
   pub left_out : new.left_out ≡ old.left_out
-  pub is_over : new.is_over ≡ old.is_over
 
 -- but for what is kept of the streams and what is left out
 pub record IsSameButTaken (old new : JudgingRun) : Type 0 where
@@ -17,4 +16,3 @@ pub record IsSameButTaken (old new : JudgingRun) : Type 0 where
   pub rules : IsSameButKept old.streams new.streams
   pub latest : new.latest ≡ old.latest
   pub findings : new.findings ≡ old.findings
-  pub is_over : new.is_over ≡ old.is_over

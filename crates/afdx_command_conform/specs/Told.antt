@@ -64,7 +64,6 @@ pub record Stands (k : Rows × Choices) (last : Bool) (time : ℕ) (j : JudgingR
   pub by_time : IsBehindAll (latest_of frames) frames
   pub running : (end : ℕ) → j.streams.ended ≡ None → k.1.until ≡ Some end → time ≤ end
   pub ends : (end : ℕ) → j.streams.ended ≡ Some end → IsEnding last k.1.until frames time end
-  pub over : j.is_over ≡ is_some j.streams.ended
 
 -- that is written
 abbrev pub TellsAll : Rows × Choices → (last : Bool) → (time : ℕ) → JudgingRun →

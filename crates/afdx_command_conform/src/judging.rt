@@ -54,7 +54,6 @@ pub(crate) struct JudgingRun<'a> {
     latest: u64,
     findings: u64,
     left_out: u64,
-    is_over: bool,
 }
 
 impl<'a> JudgingRun<'a> {
@@ -77,7 +76,6 @@ impl<'a> JudgingRun<'a> {
             latest: 0,
             findings: 0,
             left_out: 0,
-            is_over: false,
         })
     }
 
@@ -155,7 +153,6 @@ impl<'a> JudgingRun<'a> {
     {
         self.tell_due(Some(until), output)?;
         self.streams.end(until);
-        self.is_over = true;
         Ok(())
     }
 
@@ -174,7 +171,7 @@ impl<'a> JudgingRun<'a> {
             TellsAll k false before self.old start (O.written output.old) frames →
             OnOk result (TellsAll k false time self.new start (O.written output.new) frames) }
     {
-        if self.is_over {
+        if self.streams.is_ended() {
             return Ok(());
         }
         let Some(until) = self.choices.until else {
@@ -202,7 +199,7 @@ impl<'a> JudgingRun<'a> {
             × TellsAll k true time self.new start (O.written output.new) frames
             × (is_some self.new.streams.ended ≡ true)) }
     {
-        if self.is_over {
+        if self.streams.is_ended() {
             return Ok(());
         }
         match self.choices.until {

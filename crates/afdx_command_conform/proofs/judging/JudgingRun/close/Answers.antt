@@ -22,7 +22,7 @@ returns-clause-stands g c k after time to start frames le-until le-to le-latest 
         tells-same k start frames c.tell_due.new.self _ _ mid.0 c.end.ensures.rules refl refl refl refl mid.1,
         stands-ended k frames after c.args.until c.args.until to c.tell_due.new.self _ mid.0 (omega arith) le-to
             le-latest may ending
-            now-none c.end.ensures.ended refl
+            now-none c.end.ensures.ended
             (λ dues s. c.end.ensures.stands k.0 k.1 c.args.until frames dues (omega arith) now-none
             (counted-behind k.0 k.1 frames c.args.until (behind-later frames c.args.until le-latest mid.2.by_time)) s)
             mid.2,

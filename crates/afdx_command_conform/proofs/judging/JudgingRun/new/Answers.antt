@@ -1,5 +1,4 @@
 use Rattle.std.proofs.Common.{[], refl, sym, ap, ◌∙◌, arith}
-use Rattle.std.specs.Prelude.{is_some}
 use Rattle.afdx_command_conform.specs.Tapped.{taps_in}
 use Rattle.afdx_command_conform.specs.ChoicesOf.{choices_of}
 use Rattle.afdx_command_conform.proofs.BegunLemmas.{nothing-early}
@@ -25,7 +24,6 @@ returns c = λ output. (
     by_time = tt;
     running = λ end none said. omega arith;
     ends = λ end is. absurd (let bad = sym c.in_ok-streams.ensures.running ∙ is in cc bad);
-    over = sym (ap (λ o. is_some o) c.in_ok-streams.ensures.running);
   },
   nothing-early (c.args.tables.now, choices_of (taps_in c.args.taps.now) c.args.choices.now),
 )

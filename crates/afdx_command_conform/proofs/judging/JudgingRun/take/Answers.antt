@@ -94,7 +94,7 @@ returns-then-not-is_in_time-clause-stands c k frames lines same-tables chosen la
     (λ until dues s. stand-skipped k.0 k.1 until x.arrival.time x frames dues c.args.self.now.streams
     (out-of-time k.0 k.1 x (subst (λ o. is_in_time o x ≡ false) chosen (sym
     (c.is_in_time.ensures (taps_in c.args.self.now.streams.taps.now) c.args.message.now c.args.n)
-    ∙ c.if-not-is_in_time.true))) s) refl refl stands
+    ∙ c.if-not-is_in_time.true))) s) refl stands
 
 pub returns-then-is_passed-clause-stands : goal.returns-then-is_passed-clause-stands
 returns-then-is_passed-clause-stands c k frames lines same-tables chosen latest few stands =
@@ -107,7 +107,7 @@ returns-then-is_passed-clause-stands c k frames lines same-tables chosen latest 
     (sym (c.is_passed.ensures x refl refl refl c.frame-frame.ensures (c.in_ok-vl.ensures
     ∙ ap link_named_by c.frame-frame.ensures)
     (c.place_named-named.ensures.place x.arrival.bytes (c.in_ok-vl.ensures
-    ∙ ap link_named_by c.frame-frame.ensures))) ∙ c.if-is_passed.true)))) s) refl refl stands
+    ∙ ap link_named_by c.frame-frame.ensures))) ∙ c.if-is_passed.true)))) s) refl stands
 
 pub returns-then-length-gt-MOST_BYTES-clause-stands : goal.returns-then-length-gt-MOST_BYTES-clause-stands
 returns-then-length-gt-MOST_BYTES-clause-stands c k frames lines same-tables chosen latest few stands =
@@ -116,7 +116,7 @@ returns-then-length-gt-MOST_BYTES-clause-stands c k frames lines same-tables cho
     (λ until dues s. stand-skipped k.0 k.1 until x.arrival.time x frames dues c.args.self.now.streams
     (too-long k.0 k.1 x
     (subst (λ (b : List ℕ). most_bytes < length b) c.frame-frame.ensures
-    (let l = c.length.ensures in let test = c.if-length-gt-MOST_BYTES.true in omega (arith, l, test)))) s) refl refl
+    (let l = c.length.ensures in let test = c.if-length-gt-MOST_BYTES.true in omega (arith, l, test)))) s) refl
     stands
 
 pub returns-in-Came-clause-stands : goal.returns-in-Came-clause-stands
@@ -147,7 +147,7 @@ returns-in-Came-clause-stands c k frames lines same-tables chosen latest few sta
     (c.came.ensures.stands k.0 k.1 until h.time frames dues
     (c.place_named-named.ensures.place bytes (c.in_ok-vl.ensures))
     (ap (λ f. counts k.0 k.1 f) same ∙ count) (omega arith)
-    (behind-later frames h.time latest stands.by_time) few none s)) c.came.ensures.ended refl stands
+    (behind-later frames h.time latest stands.by_time) few none s)) c.came.ensures.ended stands
 
 pub returns-in-Left-clause-stands : goal.returns-in-Left-clause-stands
 returns-in-Left-clause-stands c k frames lines same-tables chosen latest few stands =
@@ -176,4 +176,4 @@ returns-in-Left-clause-stands c k frames lines same-tables chosen latest few sta
     (c.left.ensures.stands k.0 k.1 until h.time frames dues
     (c.place_named-named.ensures.place bytes c.in_ok-vl.ensures)
     (ap (λ f. counts k.0 k.1 f) same ∙ count) (omega arith)
-    (behind-later frames h.time latest stands.by_time) few none s)) c.left.ensures.ended refl stands
+    (behind-later frames h.time latest stands.by_time) few none s)) c.left.ensures.ended stands

@@ -42,7 +42,7 @@ returns-in_err-tell_lines-clause-begun g c = λ k last time to start frames on h
           (λ e. in-time to c.args.before (awaited l.moment l.key) (up-to to c.args.before (on.early e))
           (some-there c.in_ok-lines.field-0 l (λ x. IsBefore c.args.before
           (awaited x.moment x.key)) c.in-Some.is c.in_ok-lines.ensures.in_time))
-          ended c.tell_lines.ensures.others.is_over old.2,
+          ended old.2,
     )
 
 pub loop-lines-preserved : goal.loop-lines-preserved
@@ -72,7 +72,7 @@ loop-lines-preserved g c = record {
             (some-there c.in_ok-lines.field-0 l (λ x. IsBefore c.args.before (awaited x.moment x.key)) c.in-Some.is
             c.in_ok-lines.ensures.in_time))
             (ap (λ s. s.ended) c.tell_lines.ensures.others.streams ∙ c.take_before.ensures.ended)
-            c.tell_lines.ensures.others.is_over old.2,
+            old.2,
       );
   ended = ap (λ s. s.ended) c.tell_lines.ensures.others.streams ∙ c.take_before.ensures.ended
       ∙ c.loop-lines.invariant.ended;
@@ -90,7 +90,7 @@ returns-clause-stands g c k last time to start frames on h =
         tells-same k start frames c.loop-lines.self _ _ old.0 c.take_before.ensures.rules refl refl refl refl old.1,
         stands-same k frames last to c.loop-lines.self _ old.0
             (λ until dues st. (none-there c.in_ok-lines.field-0 c.in_default.is
-            (c.in_ok-lines.ensures.none k.0 k.1 until to frames dues st)).0) c.take_before.ensures.ended refl old.2,
+            (c.in_ok-lines.ensures.none k.0 k.1 until to frames dues st)).0) c.take_before.ensures.ended old.2,
       ),
       (none-there c.in_ok-lines.field-0 c.in_default.is (c.in_ok-lines.ensures.none k.0 k.1 some.0 to frames s.dues
           s.streams)).1,

@@ -9,7 +9,7 @@ use Rattle.afdx_command_conform.proofs.EarlyLemmas.{comes-next, stands-begun, st
 use Rattle.afdx_command_conform.proofs.EndLemmas.{are-few, latest-same}
 use Rattle.afdx_command_conform.proofs.FullLemmas.{stands-same}
 use Rattle.afdx_command_conform.proofs.ToldLemmas.{tells-next}
-use Rattle.afdx_command_conform.proofs.judging.JudgingMachineSeen.tell.Goals as goal
+use Rattle.afdx_command_conform.proofs.judging.JudgingRunMachineSeen.tell.Goals as goal
 
 pub returns-in_err-reach-clause-begins : goal.returns-in_err-reach-clause-begins
 returns-in_err-reach-clause-begins g c = λ k start past h.
@@ -61,7 +61,7 @@ returns-clause-told g c = λ k start past h follows can.
       tells-next k start frames c.reach.new.self c.take.new.self _ _ mid.0 x c.take.ensures.others refl refl refl refl
           refl
           (c.in_ok-take.ensures.counted frames) mid.1,
-      stands-same k (x ∷ frames) false time c.take.new.self _ mid.0 (λ until dues s. s) refl refl taken,
+      stands-same k (x ∷ frames) false time c.take.new.self _ mid.0 (λ until dues s. s) refl taken,
       comes-next (λ until all dues. AreLinesBefore k.0 k.1 until all time dues) k time x frames mid.0 (omega arith)
           (stands-early k frames time c.reach.new.self mid.0 latest mid.2 all.1),
     )
