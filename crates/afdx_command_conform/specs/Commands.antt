@@ -15,6 +15,7 @@ use Rattle.afdx_input_lines.specs.declared.watched.Watched.{Watched}
 use Rattle.afdx_text.specs.Telling.{Tells, TellsFault}
 use Rattle.afdx_command_conform.specs.Totals.{status_of}
 use Rattle.afdx_command_conform.specs.declared.command.Judged.{Judged}
+use Rattle.afdx_command_conform.specs.declared.command.Question.{Question}
 use Rattle.afdx_command_conform.specs.declared.run.RunCounts.{RunCounts}
 
 -- the tables of the switch that is judged: the one switch where none is named, else the one of this
@@ -65,15 +66,19 @@ pub record IsRun (all_read : Type 0) (input_failed output_failed : Bool)
   pub read : input_failed ≡ is_failed_read answer
   pub write : output_failed ≡ is_failed_write answer
 
+-- the name of the switch, if one is asked for
+abbrev pub name_in : Question → Option (List ℕ)
+name_in question = option_map (λ name. name.now) question.switch
+
 -- what is judged, by a configuration and a name
-module _ {E : Type 0} (error_bytes : E → Option (List ℕ)) (config : List ℕ)
-    (name : Option (List ℕ)) (old new : Watched E) (ended : Judged) where
+module _ {E : Type 0} (error_bytes : E → Option (List ℕ)) (question : Question)
+    (old new : Watched E) (ended : Judged) where
   -- a run by the tables of the switch ended the command, of which this holds
   pub record IsJudged (ran : Rows → Result RunCounts RunFault → Type 0) : Type 0 where
     pub described : Described
-    pub read : IsRead config described
+    pub read : IsRead question.config.now described
     pub tables : Rows
-    pub judged : tables_judged described name ≡ Some tables
+    pub judged : tables_judged described (name_in question) ≡ Some tables
     pub answer : Result RunCounts RunFault
     pub ends : EndsAs error_bytes old new ended answer
     pub runs : ran tables answer
@@ -81,14 +86,14 @@ module _ {E : Type 0} (error_bytes : E → Option (List ℕ)) (config : List ℕ
   -- the configuration describes no such switch
   pub record HasNoSwitch : Type 0 where
     pub described : Described
-    pub read : IsRead config described
-    pub unjudged : tables_judged described name ≡ None
+    pub read : IsRead question.config.now described
+    pub unjudged : tables_judged described (name_in question) ≡ None
     pub told : IsToldNoSwitch error_bytes old new ended.status
 
   -- there are no tables to judge by
   abbrev pub IsUnjudged : Type 0
   IsUnjudged = (ended.count ≡ None)
-      × (IsUnread error_bytes old new config ended.status ⊎ HasNoSwitch)
+      × (IsUnread error_bytes old new question.config.now ended.status ⊎ HasNoSwitch)
 
   -- a run ended the command, or there are no tables, and this holds
   abbrev pub IsJudgedOr : (Rows → Result RunCounts RunFault → Type 0) → Type 0 → Type 0

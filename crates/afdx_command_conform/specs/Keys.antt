@@ -4,10 +4,17 @@ use Rattle.std.specs.Option.{ForSome}
 use Rattle.afdx_frame.specs.declared.link.Side.{Side}
 use Rattle.afdx_frame.specs.declared.link.Side.TheVariants.{A, B}
 use Rattle.afdx_frame.specs.Sides.{is_side}
+use Rattle.afdx_law_bounds.specs.Tables.{port_of}
+use Rattle.afdx_config.specs.Rows.{Rows}
 use Rattle.afdx_command_conform.specs.declared.key.Key.{Key}
+use Rattle.afdx_command_conform.specs.declared.outlets.Outlet.{Outlet}
 
 abbrev pub key_with : Side → ℕ → Option ℕ → Key
 key_with side port link = record { side = side; port = port; link = link }
+
+-- that of the stream at an outlet
+abbrev pub key_of : Rows → Outlet → Key
+key_of t outlet = key_with outlet.side (port_of t outlet.system.0) (Some outlet.link)
 
 -- both are the same link, or none
 abbrev pub is_link : Option ℕ → Option ℕ → Bool

@@ -3,7 +3,7 @@
 use Rattle.std.specs.Prelude.{◌≡◌, ℕ, ◌+◌, ◌<◌, ◌≤◌, true, List, [], ◌∷◌, All, length, Option, Some, None, slice_get}
 use Rattle.std.specs.List.{AllByRecursion}
 use Rattle.std.specs.List.Sorted.{IsPermutation}
-use Rattle.afdx_law_bounds.specs.Tables.{port_of}
+use Rattle.afdx_law_bounds.specs.Tables.{port_of, rule_of}
 use Rattle.afdx_config.specs.Lawful.{IsLawfulSwitch}
 use Rattle.afdx_config.specs.Rows.{LinkRow, Rows, is_to}
 use Rattle.afdx_conform.specs.Explanations.{from_time}
@@ -15,19 +15,16 @@ use Rattle.afdx_conform.specs.Limits.{gone_of}
 use Rattle.afdx_conform.specs.Marks.{IsJudged, arrival_of}
 use Rattle.afdx_conform.specs.Ranges.{most_held}
 use Rattle.afdx_conform.specs.Standing.{StandsFor, due_of}
-use Rattle.afdx_conform.specs.Streams.{Gone}
+use Rattle.afdx_conform.specs.Streams.{Gone, Terms}
 use Rattle.afdx_conform.specs.declared.arrived.Arrived.{Arrived}
-use Rattle.afdx_conform.specs.declared.leeway.Leeway.{Leeway}
 use Rattle.afdx_conform.specs.declared.limits.LeftFrame as left
 use Rattle.afdx_conform.specs.declared.streaming.Stream.{Stream}
-use Rattle.afdx_frame.specs.declared.link.Side.{Side}
 use Rattle.afdx_input_runs.specs.Joining.{Frame}
-use Rattle.afdx_police.specs.Arrival.{Arrival}
 use Rattle.afdx_command_conform.specs.Awaited.{rank_of}
 use Rattle.afdx_command_conform.specs.Choices.{Choices, counts}
 use Rattle.afdx_command_conform.specs.Frames.{terms_at}
 use Rattle.afdx_command_conform.specs.Keeping.{AreKept, Given, IsStreamOf, is_known, kept_with, slot_at, with_came, with_left, with_strange}
-use Rattle.afdx_command_conform.specs.Keys.{IsKey, key_with}
+use Rattle.afdx_command_conform.specs.Keys.{IsKey, key_of}
 use Rattle.afdx_command_conform.specs.Lines.{Due}
 use Rattle.afdx_command_conform.specs.Slots.{AreFalling, IsStrange, IsStream, told_at, waiting_due}
 use Rattle.afdx_command_conform.specs.Standing.{IsBehindAll, StreamsStand}
@@ -36,12 +33,10 @@ use Rattle.afdx_command_conform.specs.declared.agenda.AgendaEntry.{AgendaEntry}
 use Rattle.afdx_command_conform.specs.declared.kept.KeptByKey.{KeptByKey}
 use Rattle.afdx_command_conform.specs.declared.kept.Lines.{Lines}
 use Rattle.afdx_command_conform.specs.declared.key.Key.{Key}
+use Rattle.afdx_command_conform.specs.declared.outlets.Outlet.{Outlet}
+use Rattle.afdx_command_conform.specs.declared.outlets.StreamRules.{StreamRules}
 use Rattle.afdx_command_conform.specs.declared.strangers.Stranger.{Stranger}
 use Rattle.afdx_command_conform.specs.declared.streams.Streams.{Streams}
-
--- the key of a link's stream to a system or neighbour
-abbrev pub key_to : Rows → Side → (link system : ℕ) → Key
-key_to t side link system = key_with side (port_of t system) (Some link)
 
 -- ---- of one key
 
@@ -100,42 +95,59 @@ module _ (done : Type 0 → Type 0) (old new : KeptByKey) where
       done (AreKept t c until None time (with_strange key (waiting_due key stranger) given) lines
       new)
 
-  -- of a link of these tables, by what may be off
-  module _ (t : Rows) (leeway : Leeway) (link system : ℕ) where
-    -- its stream to a system or neighbour is kept in the place of none
+  -- at an outlet, by the tables and what may be off
+  module _ (rules : StreamRules) (outlet : Outlet) where
+    -- its stream is kept in the place of none
     abbrev pub MakesStream : Key → Type 0
     MakesStream key =
+        let t = rules.tables.now in
         (c : Choices) (until time : ℕ) (given : Key → Given) (lines : List Due) (l : LinkRow) →
-        IsLawfulSwitch t → IsStreamOf t key l →
-        slice_get t.links link ≡ Some l → port_of t system ≡ key.port →
-        leeway_of leeway ≡ c.by → (IsStream (slot_at old.slots.items key) → ⊥) →
+        IsLawfulSwitch t → IsStreamOf t key l → slice_get t.links outlet.link ≡ Some l →
+        port_of t outlet.system.0 ≡ key.port → leeway_of rules.leeway ≡ c.by →
+        (IsStream (slot_at old.slots.items key) → ⊥) →
         AreKept t c until None time given lines old →
         done (AreKept t c until None time given lines new
         × IsStream (slot_at new.slots.items key))
 
-    -- an arrival, of no earlier time than those before it, is the newest that is given of that one
-    abbrev pub TakesArrival : Arrival → Type 0
+    -- an arrival, judged by the link's rule, of no earlier time than those before it, is the newest
+    -- that is given of that one
+    abbrev pub TakesArrival : Arrived → Type 0
     TakesArrival x =
+        let t = rules.tables.now in
         (c : Choices) (until time : ℕ) (given : Key → Given) (lines : List Due) (l : LinkRow) →
-        slice_get t.links link ≡ Some l → is_to system l ≡ true →
-        leeway_of leeway ≡ c.by → time ≤ x.time → from_time c.by.start ≤ x.time →
-        AllByRecursion (λ w. w.time ≤ x.time) (given (key_to t x.side link system)).came →
-        length (given (key_to t x.side link system)).came + 1 < most_held →
+        slice_get t.links outlet.link ≡ Some l → is_to outlet.system.0 l ≡ true →
+        leeway_of rules.leeway ≡ c.by →
+        ((z : Terms) → z.rule ≡ rule_of t l → IsJudged z x) →
+        time ≤ x.time → from_time c.by.start ≤ x.time →
+        AllByRecursion (λ w. w.time ≤ x.time) (given (key_of t outlet)).came →
+        length (given (key_of t outlet)).came + 1 < most_held →
         AreKept t c until None time given lines old →
-        done (AreKept t c until None time (with_came (key_to t x.side link system) x given) lines
+        done (AreKept t c until None time (with_came (key_of t outlet) (arrival_of x) given) lines
         new)
 
-    -- so is a frame that left on a side
-    abbrev pub TakesFrame : Side → Gone → Type 0
-    TakesFrame side y =
+    -- so is a frame that left there
+    abbrev pub TakesFrame : Gone → Type 0
+    TakesFrame y =
+        let t = rules.tables.now in
         (c : Choices) (until time : ℕ) (given : Key → Given) (lines : List Due) (l : LinkRow) →
-        slice_get t.links link ≡ Some l → is_to system l ≡ true →
-        leeway_of leeway ≡ c.by → time ≤ y.time → from_time c.by.start ≤ y.time + reach c.by →
-        AllByRecursion (λ w. w.time ≤ y.time) (given (key_to t side link system)).left →
-        length (given (key_to t side link system)).left + 1 < most_held →
+        slice_get t.links outlet.link ≡ Some l → is_to outlet.system.0 l ≡ true →
+        leeway_of rules.leeway ≡ c.by → time ≤ y.time →
+        from_time c.by.start ≤ y.time + reach c.by →
+        AllByRecursion (λ w. w.time ≤ y.time) (given (key_of t outlet)).left →
+        length (given (key_of t outlet)).left + 1 < most_held →
         AreKept t c until None time given lines old →
-        done (AreKept t c until None time (with_left (key_to t side link system) y given) lines
-        new)
+        done (AreKept t c until None time (with_left (key_of t outlet) y given) lines new)
+
+-- the stream at an outlet is kept, under its key
+abbrev pub FindsStream : ((Key → Type 0) → Type 0) → KeptByKey → KeptByKey → StreamRules → Outlet
+    → Type 0
+FindsStream done old new rules outlet =
+    let t = rules.tables.now in
+    (c : Choices) (until time : ℕ) (given : Key → Given) (lines : List Due) (l : LinkRow) →
+    slice_get t.links outlet.link ≡ Some l → is_to outlet.system.0 l ≡ true →
+    leeway_of rules.leeway ≡ c.by → AreKept t c until None time given lines old →
+    done (λ key. IsStreamOf t key l × IsStream (slot_at new.slots.items key)
+    × AreKept t c until None time given lines new)
 
 -- what is due first is told, and stands on the agenda no more
 abbrev pub TellsFirst : ((Lines → Type 0) → Type 0) → KeptByKey → KeptByKey → AgendaEntry → Option ℕ

@@ -23,6 +23,15 @@ pub struct Judged {
     pub count: Option<SeenCount>,
 }
 
+/// What is judged: the switch of a configuration, by its name where it describes several; and what
+/// is asked for.
+#[derive(Clone, Copy, Debug)]
+pub struct Question<'a> {
+    pub config: &'a [u8],
+    pub switch: Option<&'a str>,
+    pub choices: &'a Choices,
+}
+
 /// It ended before its last line.
 fn ended_with(status: u8) -> Judged
     ensures { result ≡ spec.ended_with status }
@@ -76,20 +85,17 @@ fn end<E: Write>(answer: Result<RunCounts, RunFault>, errors: &mut Watched<E>) -
 }
 
 /// Judges whether the switch of a configuration did what its tables say, by the frames that came to
-/// it and those that left it: of two lists, of one recording of both, or of two recordings. Where
-/// the configuration describes several switches, `switch` is the name of the one that is judged.
-/// The lines go to `output`, the one line of a fault to `errors`. Where the last line was written
-/// it also gives what was read.
+/// it and those that left it: of two lists, of one recording of both, or of two recordings. The
+/// lines go to `output`, the one line of a fault to `errors`. Where the last line was written it
+/// also gives what was read.
 ///
 /// Nothing of the inputs is read before the tables are taken. The exit status is 0 conforms, 5
 /// deviates, 3 undecided or a fault of a list or a recording, 1 a fault of the configuration, 2 no
 /// such switch, or 4 a device or memory.
 pub fn conform<P: Drop, A: SeenFrames<P>, O: Sink, E: Write>(
     alloc: Global,
-    choices: &Choices,
-    switch: Option<&str>,
+    question: Question<'_>,
     options: P,
-    config: &[u8],
     inputs: &mut A,
     output: &mut O,
     errors: &mut Watched<E>,
@@ -104,22 +110,21 @@ pub fn conform<P: Drop, A: SeenFrames<P>, O: Sink, E: Write>(
 
     // The command ends as a run by the tables of the switch answered; or the configuration isn't
     // read, or has no such switch: then nothing is read and nothing is written.
-    ensures judges { IsJudgedOr E.contents config.now (option_map (λ name. name.now) switch.entry)
-        errors.old errors.new result
+    ensures judges { IsJudgedOr E.contents question.entry errors.old errors.new result
         (λ t answer. IsRun (A.ended inputs.new) (A.failed inputs.new) (O.failed output.new) answer
         × Answers (A.known inputs.old) (A.Takes options) inputs.new t (A.tapped options)
-        choices.now (O.written output.old) (O.written output.new) answer)
+        question.entry.choices.now (O.written output.old) (O.written output.new) answer)
         ((inputs.new ≡ inputs.old) × (output.new ≡ output.old)) }
 {
     // (a law of the inputs: before they are asked for anything they haven't failed)
     A::starts();
-    let described = match read_described(alloc, config, errors) {
+    let described = match read_described(alloc, question.config, errors) {
         Ok(described) => described,
         Err(status) => return ended_with(status),
     };
-    let Some(tables) = tables_named(described, switch) else {
+    let Some(tables) = tables_named(described, question.switch) else {
         return ended_with(refuse_switch(errors));
     };
-    let answer = run_conform(alloc, &tables, choices, options, inputs, output);
+    let answer = run_conform(alloc, &tables, question.choices, options, inputs, output);
     end(answer, errors)
 }

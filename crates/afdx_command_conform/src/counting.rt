@@ -11,44 +11,30 @@ ghost use Rattle.afdx_command_conform.specs.Counting.{none_counted};
 ghost use Rattle.afdx_command_conform.specs.Tapped.{taps_in};
 
 use crate::kept::KeptByKey;
-use crate::key::Key;
-use crate::outlets::receiver;
+use crate::outlets::{Outlet, key_at, receiver};
 use crate::tapped::is_judged;
 use crate::totals::Totals;
-use afdx_config::{SystemId, Tables};
+use afdx_config::Tables;
 use afdx_frame::Side;
 use afdx_input_sources::Taps;
 
-/// What is counted of a link's stream to a system or neighbour on a side, if it is judged.
-fn count_at(
-    tables: &Tables,
-    taps: &Taps,
-    kept: &KeptByKey,
-    side: Side,
-    link: usize,
-    system: SystemId,
-    totals: &mut Totals,
-)
-    requires link { link < length tables.now.links }
-    requires system { system.0 < length tables.now.systems }
+/// What is counted of the stream at an outlet, if it is judged.
+fn count_at(tables: &Tables, taps: &Taps, kept: &KeptByKey, outlet: Outlet, totals: &mut Totals)
+    requires link { outlet.link < length tables.now.links }
+    requires system { outlet.system.0 < length tables.now.systems }
     ensures findings { totals.new.findings ≡ totals.old.findings }
     ensures left_out { totals.new.left_out ≡ totals.old.left_out }
     ensures unseen { totals.new.unseen ≡ totals.old.unseen }
     ensures exercised { totals.new.is_exercised ≡ totals.old.is_exercised }
     ensures counted { (c : Choices) (until : ℕ) (frames : List Seen) (n : Counted) (l : LinkRow) →
-        slice_get tables.now.links link ≡ Some l → is_to system.0 l ≡ true →
+        slice_get tables.now.links outlet.link ≡ Some l → is_to outlet.system.0 l ≡ true →
         taps_in taps.now ≡ c.taps → AreEnded tables.now c until frames kept.now →
         HasCounted n totals.old →
-        HasCounted (both_counted n (counted_at tables.now c until frames side l
-        (port_of tables.now system.0))) totals.new }
+        HasCounted (both_counted n (counted_at tables.now c until frames outlet.side l
+        (port_of tables.now outlet.system.0))) totals.new }
 {
-    if is_judged(tables, taps, side, link, system) {
-        let key = Key {
-            side,
-            port: tables.system(system).port,
-            link: Some(link as u16),
-        };
-        kept.count(key, totals);
+    if is_judged(tables, taps, outlet) {
+        kept.count(key_at(tables, outlet), totals);
     }
 }
 
@@ -74,7 +60,8 @@ fn count_to(
 {
     for rank in 0..tables.link(link).to.len() {
         let system = receiver(tables, link, rank);
-        count_at(tables, taps, kept, side, link, system, totals);
+        let outlet = Outlet { side, link, system };
+        count_at(tables, taps, kept, outlet, totals);
     }
 }
 

@@ -1,82 +1,60 @@
 //! What comes in or leaves joins the stream that it is of.
 
-ghost use Rattle.std.specs.Prelude.{◌≡◌, ◌≤◌, ◌<◌, ℕ, List, None, Some, IfOk, OnOk, length, slice_get, true};
-ghost use Rattle.afdx_law_bounds.specs.Tables.{port_of};
+ghost use Rattle.std.specs.Prelude.{◌≡◌, ◌<◌, ℕ, List, None, IfOk, OnOk, length, true};
 ghost use Rattle.afdx_config.specs.Lawful.{IsLawfulSwitch};
-ghost use Rattle.afdx_config.specs.Rows.{LinkRow, Rows, is_to};
-ghost use Rattle.afdx_conform.specs.LeewayOf.{leeway_of};
-ghost use Rattle.afdx_conform.specs.LimitRanges.{most_bytes};
+ghost use Rattle.afdx_config.specs.Rows.{Rows};
 ghost use Rattle.afdx_conform.specs.Limits.{gone_of};
-ghost use Rattle.afdx_frame.specs.Times.{latest_listed};
-ghost use Rattle.afdx_police.specs.Arrival.{arrival_with};
 ghost use Rattle.afdx_command_conform.specs.Choices.{Choices};
 ghost use Rattle.afdx_command_conform.specs.Keeping.{AreKept, Given, is_known, slot_at};
-ghost use Rattle.afdx_command_conform.specs.Keys.{key_with};
+ghost use Rattle.afdx_command_conform.specs.Keys.{key_of, key_with};
 ghost use Rattle.afdx_command_conform.specs.Lines.{Due};
-ghost use Rattle.afdx_command_conform.specs.Slots.{IsStrange, IsStream};
-ghost use Rattle.afdx_command_conform.specs.Taking.{MakesStream, TakesArrival, TakesFrame};
+ghost use Rattle.afdx_command_conform.specs.Slots.{IsStrange};
+ghost use Rattle.afdx_command_conform.specs.Taking.{FindsStream, MakesStream, TakesArrival, TakesFrame};
 ghost use Rattle.afdx_command_conform.specs.Taking.{TakesStranger};
 
 use crate::kept::KeptByKey;
 use crate::key::Key;
-use crate::outlets::{new_stream, rule_at};
+use crate::outlets::{Outlet, StreamRules, key_at, new_stream};
 use crate::strangers::Stranger;
-use afdx_config::{SystemId, Tables};
-use afdx_conform::{Arrived, CheckedBytes, Leeway, LeftFrame};
+use afdx_conform::{Arrived, LeftFrame};
 use afdx_frame::Side;
-use afdx_input_lines::Heading;
 use std::alloc::{AllocError, Global};
 
-/// The stream of a link to a system or neighbour is made, where none is kept of its key. Apart from
-/// those who call it, so that no room for it is cleared where one is kept.
+/// The stream at an outlet is made, where none is kept of its key. Apart from those who call it, so
+/// that no room for it is cleared where one is kept.
 #[cold]
 #[inline(never)]
 fn make_stream(
     alloc: Global,
-    tables: &Tables,
-    leeway: Leeway,
+    rules: &StreamRules<'_>,
     kept: &mut KeptByKey,
-    link: usize,
-    system: SystemId,
+    outlet: Outlet,
     key: Key,
 ) -> Result<(), AllocError>
-    requires link { link < length tables.now.links }
-    requires system { system.0 < length tables.now.systems }
-    ensures { MakesStream (λ done. OnOk result done) kept.old kept.new tables.now leeway link
-        system.0 key }
+    requires link { outlet.link < length rules.now.tables.now.links }
+    requires system { outlet.system.0 < length rules.now.tables.now.systems }
+    ensures { MakesStream (λ done. OnOk result done) kept.old kept.new rules.now outlet key }
 {
-    let stream = new_stream(alloc, tables, link, system, leeway);
+    let stream = new_stream(alloc, rules, outlet);
     kept.put_stream(alloc, key, stream)
 }
 
-/// The key of a link's stream to a system or neighbour. It is made if nothing of it came.
+/// The key of the stream at an outlet. It is made if nothing of it came.
 fn stream_to(
     alloc: Global,
-    tables: &Tables,
-    leeway: Leeway,
+    rules: &StreamRules<'_>,
     kept: &mut KeptByKey,
-    link: usize,
-    system: SystemId,
-    side: Side,
+    outlet: Outlet,
 ) -> Result<Key, AllocError>
-    requires link { link < length tables.now.links }
-    requires system { system.0 < length tables.now.systems }
-    ensures lawful { IsLawfulSwitch tables.now }
-    ensures key { IfOk result (λ key.
-        key ≡ key_with side (port_of tables.now system.0) (Some link)) }
-    ensures stands { (c : Choices) (until time : ℕ) (given : Key → Given) (lines : List Due)
-        (l : LinkRow) → slice_get tables.now.links link ≡ Some l → is_to system.0 l ≡ true →
-        leeway_of leeway ≡ c.by → AreKept tables.now c until None time given lines kept.old →
-        IfOk result (λ key. AreKept tables.now c until None time given lines kept.new
-        × IsStream (slot_at kept.new.slots.items key)) }
+    requires link { outlet.link < length rules.now.tables.now.links }
+    requires system { outlet.system.0 < length rules.now.tables.now.systems }
+    ensures lawful { IsLawfulSwitch rules.now.tables.now }
+    ensures key { IfOk result (λ key. key ≡ key_of rules.now.tables.now outlet) }
+    ensures stands { FindsStream (λ done. IfOk result done) kept.old kept.new rules.now outlet }
 {
-    let key = Key {
-        side,
-        port: tables.system(system).port,
-        link: Some(link as u16),
-    };
+    let key = key_at(rules.tables, outlet);
     if !kept.has_stream(key) {
-        make_stream(alloc, tables, leeway, kept, link, system, key)?;
+        make_stream(alloc, rules, kept, outlet, key)?;
     }
     Ok(key)
 }
@@ -84,45 +62,33 @@ fn stream_to(
 /// An arrival comes to one stream of its link.
 pub(crate) fn come_to(
     alloc: Global,
-    tables: &Tables,
-    leeway: Leeway,
+    rules: &StreamRules<'_>,
     kept: &mut KeptByKey,
-    link: usize,
-    system: SystemId,
-    n: u64,
-    heading: &Heading,
-    bytes: CheckedBytes,
+    outlet: Outlet,
+    arrived: Arrived,
 ) -> Result<(), AllocError>
-    requires link { link < length tables.now.links }
-    requires system { system.0 < length tables.now.systems }
-    requires time { heading.now.time ≤ latest_listed }
-    requires short { length bytes ≤ most_bytes }
-    ensures { TakesArrival (λ done. OnOk result done) kept.old kept.new tables.now leeway link
-        system.0 (arrival_with n heading.now.time heading.now.side heading.now.port bytes) }
+    requires link { outlet.link < length rules.now.tables.now.links }
+    requires system { outlet.system.0 < length rules.now.tables.now.systems }
+    ensures { TakesArrival (λ done. OnOk result done) kept.old kept.new rules.now outlet arrived }
 {
-    let key = stream_to(alloc, tables, leeway, kept, link, system, heading.side)?;
-    let rule = rule_at(tables, link);
-    let arrived = Arrived::new(&rule, n, heading.time, heading.side, heading.port, bytes);
+    let key = stream_to(alloc, rules, kept, outlet)?;
     kept.add_arrival(key, arrived)
 }
 
 /// A frame of a link left where the link goes.
 pub(crate) fn leave_to(
     alloc: Global,
-    tables: &Tables,
-    leeway: Leeway,
+    rules: &StreamRules<'_>,
     kept: &mut KeptByKey,
-    link: usize,
-    system: SystemId,
-    side: Side,
+    outlet: Outlet,
     frame: LeftFrame,
 ) -> Result<(), AllocError>
-    requires link { link < length tables.now.links }
-    requires system { system.0 < length tables.now.systems }
-    ensures { TakesFrame (λ done. OnOk result done) kept.old kept.new tables.now leeway link
-        system.0 side (gone_of frame) }
+    requires link { outlet.link < length rules.now.tables.now.links }
+    requires system { outlet.system.0 < length rules.now.tables.now.systems }
+    ensures { TakesFrame (λ done. OnOk result done) kept.old kept.new rules.now outlet
+        (gone_of frame) }
 {
-    let key = stream_to(alloc, tables, leeway, kept, link, system, side)?;
+    let key = stream_to(alloc, rules, kept, outlet)?;
     kept.add_frame(key, frame)
 }
 

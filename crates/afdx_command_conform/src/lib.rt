@@ -29,6 +29,6 @@ pub use afdx_conform::Leeway;
 pub use afdx_input_lines::{ByRole, Watched};
 pub use afdx_input_runs::{AsLists, SeenCount, SeenFrames};
 pub use choices::Choices;
-pub use command::{Judged, conform};
+pub use command::{Judged, Question, conform};
 pub use run::{RunCounts, run_conform};
 pub use totals::Totals;

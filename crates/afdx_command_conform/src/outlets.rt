@@ -10,11 +10,43 @@ ghost use Rattle.afdx_conform.specs.Histories.{nothing_judged};
 ghost use Rattle.afdx_conform.specs.Standing.{StandsFor, due_of};
 ghost use Rattle.afdx_command_conform.specs.Choices.{Choices};
 ghost use Rattle.afdx_command_conform.specs.Frames.{link_to, terms_at};
+ghost use Rattle.afdx_command_conform.specs.Keys.{key_of};
 
+use crate::key::Key;
 use afdx_config::{SystemId, Tables};
 use afdx_conform::{Leeway, Stream};
+use afdx_frame::Side;
 use afdx_police::LinkRule;
 use std::alloc::Global;
+
+/// By what a stream is judged: the tables, and how much stamps and clocks may be off.
+#[derive(Clone, Copy)]
+pub(crate) struct StreamRules<'a> {
+    pub(crate) tables: &'a Tables,
+    pub(crate) leeway: Leeway,
+}
+
+/// Where a link leaves on a side: to a system or neighbour. The link is its place in the tables.
+#[derive(Clone, Copy, Debug)]
+pub(crate) struct Outlet {
+    pub(crate) side: Side,
+    pub(crate) link: usize,
+    pub(crate) system: SystemId,
+}
+
+/// The key of the stream that leaves there.
+pub(crate) fn key_at(tables: &Tables, outlet: Outlet) -> Key
+    requires link { outlet.link < length tables.now.links }
+    requires system { outlet.system.0 < length tables.now.systems }
+    ensures lawful { IsLawfulSwitch tables.now }
+    ensures key { result ≡ key_of tables.now outlet }
+{
+    Key {
+        side: outlet.side,
+        port: tables.system(outlet.system).port,
+        link: Some(outlet.link as u16),
+    }
+}
 
 /// The system or neighbour at this rank among those to which a link goes.
 pub(crate) fn receiver(tables: &Tables, link: usize, rank: usize) -> SystemId
@@ -70,28 +102,24 @@ pub(crate) fn rule_at(tables: &Tables, place: usize) -> LinkRule
     rule
 }
 
-/// A stream of which nothing came, of the link at this place, where it leaves to this system or
-/// neighbour.
+/// A stream of which nothing came, at this outlet.
 #[cold]
 #[inline(never)]
-pub(crate) fn new_stream(
-    alloc: Global,
-    tables: &Tables,
-    place: usize,
-    system: SystemId,
-    leeway: Leeway,
-) -> Stream
-    requires link { place < length tables.now.links }
-    requires system { system.0 < length tables.now.systems }
-    ensures stands { (c : Choices) (until time port : ℕ) (l : LinkRow) →
-        slice_get tables.now.links place ≡ Some l → port_of tables.now system.0 ≡ port →
-        leeway_of leeway ≡ c.by → StandsFor (terms_at tables.now c until l port)
-        [] [] nothing_judged time result }
+pub(crate) fn new_stream(alloc: Global, rules: &StreamRules<'_>, outlet: Outlet) -> Stream
+    requires link { outlet.link < length rules.now.tables.now.links }
+    requires system { outlet.system.0 < length rules.now.tables.now.systems }
+    ensures stands { let t = rules.now.tables.now in
+        (c : Choices) (until time port : ℕ) (l : LinkRow) →
+        slice_get t.links outlet.link ≡ Some l → port_of t outlet.system.0 ≡ port →
+        leeway_of rules.now.leeway ≡ c.by →
+        StandsFor (terms_at t c until l port) [] [] nothing_judged time result }
     ensures due { due_of result ≡ None }
 {
-    let rule = rule_at(tables, place);
-    let latency_ns = 1000 * tables.link(place).latency_us;
-    Stream::new(alloc, &rule, latency_ns, tables.byte_ns(system), leeway)
+    let tables = rules.tables;
+    let rule = rule_at(tables, outlet.link);
+    let latency_ns = 1000 * tables.link(outlet.link).latency_us;
+    let byte_ns = tables.byte_ns(outlet.system);
+    Stream::new(alloc, &rule, latency_ns, byte_ns, rules.leeway)
 }
 
 /// The place of the link that is named, and the system or neighbour at an output port, if the link

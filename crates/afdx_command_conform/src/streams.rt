@@ -25,12 +25,12 @@ use crate::counting::count_streams;
 use crate::hints::Hints;
 use crate::joining::{come_to, leave_strange, leave_to};
 use crate::kept::{KeptByKey, Lines};
-use crate::outlets::{receiver, receiver_at};
+use crate::outlets::{Outlet, StreamRules, receiver, receiver_at, rule_at};
 use crate::strangers::{Stranger, is_damaged, why_strange};
 use crate::tapped::{heard_outlet, is_heard, is_seen, unseen_of};
 use crate::totals::Totals;
 use afdx_config::Tables;
-use afdx_conform::{CheckedBytes, Leeway, LeftFrame, Spare};
+use afdx_conform::{Arrived, CheckedBytes, Leeway, LeftFrame, Spare};
 use afdx_frame::{Checked, Side, VlId};
 use afdx_input_lines::{Heading, Role};
 use afdx_input_sources::Taps;
@@ -110,21 +110,25 @@ impl<'a> Streams<'a> {
         ensures rules { IsSameButKept self.old self.new }
     {
         let (alloc, tables, leeway, taps) = (self.alloc, self.tables, self.leeway, self.taps);
+        let (side, port, time) = (heading.side, heading.port, heading.time);
         let Some(link) = named else {
             return Ok(());
         };
-        if !is_heard(tables, taps, heading.side, link) {
+        if !is_heard(tables, taps, side, link) {
             return Ok(());
         }
         let bytes = CheckedBytes::of(&mut self.spare, frame)?;
+        let rules = StreamRules { tables, leeway };
+        let rule = rule_at(tables, link);
         for rank in 0..tables.link(link).to.len() {
             let system = receiver(tables, link, rank);
-            if !is_seen(tables, taps, heading.side, system) {
+            if !is_seen(tables, taps, side, system) {
                 continue;
             }
             let share = bytes.share()?;
-            let kept = &mut self.kept;
-            come_to(alloc, tables, leeway, kept, link, system, n, heading, share)?;
+            let arrived = Arrived::new(&rule, n, time, side, port, share);
+            let outlet = Outlet { side, link, system };
+            come_to(alloc, &rules, &mut self.kept, outlet, arrived)?;
         }
         Ok(())
     }
@@ -190,8 +194,9 @@ impl<'a> Streams<'a> {
                 time,
                 bytes,
             };
-            let kept = &mut self.kept;
-            return leave_to(alloc, tables, leeway, kept, link, system, side, left);
+            let rules = StreamRules { tables, leeway };
+            let outlet = Outlet { side, link, system };
+            return leave_to(alloc, &rules, &mut self.kept, outlet, left);
         }
         let why = why_strange(frame, named.is_some());
         let stranger = Stranger {

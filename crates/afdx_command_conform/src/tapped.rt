@@ -10,7 +10,7 @@ ghost use Rattle.afdx_command_conform.specs.Frames.{is_stranger, link_to};
 ghost use Rattle.afdx_command_conform.specs.Tapped as spec;
 ghost use Rattle.afdx_command_conform.specs.Tapped.{taps_in};
 
-use crate::outlets::{outlet_at, receiver};
+use crate::outlets::{Outlet, outlet_at, receiver};
 use afdx_config::{SystemId, Tables};
 use afdx_frame::Side;
 use afdx_input_lines::Role;
@@ -66,34 +66,29 @@ pub(crate) fn heard_outlet(
     }
 }
 
-/// Whether the stream of a link to a system or neighbour is judged on a side: both ports are
-/// recorded.
-pub(crate) fn is_judged(
-    tables: &Tables,
-    taps: &Taps,
-    side: Side,
-    link: usize,
-    system: SystemId,
-) -> bool
-    requires link { link < length tables.now.links }
-    requires system { system.0 < length tables.now.systems }
-    ensures { (l : LinkRow) → slice_get tables.now.links link ≡ Some l →
-        result ≡ spec.is_judged tables.now (taps_in taps.now) side l
-        (port_of tables.now system.0) }
+/// Whether the stream at an outlet is judged: the port at which its link comes in and the one at
+/// which it leaves are recorded.
+pub(crate) fn is_judged(tables: &Tables, taps: &Taps, outlet: Outlet) -> bool
+    requires link { outlet.link < length tables.now.links }
+    requires system { outlet.system.0 < length tables.now.systems }
+    ensures { (l : LinkRow) → slice_get tables.now.links outlet.link ≡ Some l →
+        result ≡ spec.is_judged tables.now (taps_in taps.now) outlet.side l
+        (port_of tables.now outlet.system.0) }
 {
-    is_heard(tables, taps, side, link) && is_seen(tables, taps, side, system)
+    is_heard(tables, taps, outlet.side, outlet.link)
+        && is_seen(tables, taps, outlet.side, outlet.system)
 }
 
 /// 1 if it isn't, else 0.
-fn unseen_at(tables: &Tables, taps: &Taps, side: Side, link: usize, system: SystemId) -> u64
-    requires link { link < length tables.now.links }
-    requires system { system.0 < length tables.now.systems }
-    ensures count { (l : LinkRow) → slice_get tables.now.links link ≡ Some l →
-        result ≡ (if spec.is_judged tables.now (taps_in taps.now) side l
-        (port_of tables.now system.0) then 0 else 1) }
+fn unseen_at(tables: &Tables, taps: &Taps, outlet: Outlet) -> u64
+    requires link { outlet.link < length tables.now.links }
+    requires system { outlet.system.0 < length tables.now.systems }
+    ensures count { (l : LinkRow) → slice_get tables.now.links outlet.link ≡ Some l →
+        result ≡ (if spec.is_judged tables.now (taps_in taps.now) outlet.side l
+        (port_of tables.now outlet.system.0) then 0 else 1) }
     ensures few { result ≤ 1 }
 {
-    if is_judged(tables, taps, side, link, system) {
+    if is_judged(tables, taps, outlet) {
         0
     } else {
         1
@@ -110,7 +105,8 @@ fn unseen_to(tables: &Tables, taps: &Taps, side: Side, link: usize) -> u64
     let mut count: u64 = 0;
     for rank in 0..tables.link(link).to.len() {
         let system = receiver(tables, link, rank);
-        count += unseen_at(tables, taps, side, link, system);
+        let outlet = Outlet { side, link, system };
+        count += unseen_at(tables, taps, outlet);
     }
     count
 }

@@ -6,7 +6,7 @@ use crate::console::{
     explain_if_asked, is_told, memory,
 };
 use crate::running::{cause_in, failed_of, open, output_room, refuse};
-use afdx_command_conform::{ByRole, Choices, Judged, Leeway, conform};
+use afdx_command_conform::{ByRole, Choices, Judged, Leeway, Question, conform};
 use afdx_command_tables::status::DONE;
 use afdx_command_words::{
     BadPlace, ConformInputs, Refused, STANDARD_INPUT, conform_options, seen_options,
@@ -128,16 +128,13 @@ fn judge_one(
     let count = Count::new(rt, told);
     let mut input = Watched::new(Traced::new(Counted::new(&count, input)));
     let mut errors = Watched::new(WatchedWriter::new(Cleared::new(rt, told, error_lines(rt))));
-    let judged = conform(
-        rt.alloc(),
-        &choices,
-        switch_in(matches),
-        options,
+    let question = Question {
         config,
-        &mut input,
-        &mut output,
-        &mut errors,
-    );
+        switch: switch_in(matches),
+        choices: &choices,
+    };
+    let (ins, outs, faults) = (&mut input, &mut output, &mut errors);
+    let judged = conform(rt.alloc(), question, options, ins, outs, faults);
     let read = cause_in(config, word, input.into_inner());
     Ok(end_judged(rt, matches, judged, read, output, errors))
 }
@@ -189,15 +186,19 @@ fn judge_two(
         left: Watched::new(Peeked::new(Traced::new(Counted::new(&count, inputs.left)))),
     };
     let mut errors = Watched::new(WatchedWriter::new(Cleared::new(rt, told, error_lines(rt))));
-    let (alloc, switch) = (rt.alloc(), switch_in(matches));
+    let question = Question {
+        config,
+        switch: switch_in(matches),
+        choices: &choices,
+    };
     let (ins, outs, faults) = (&mut inputs, &mut output, &mut errors);
     let judged = match options {
         None => match look_at_both(ins) {
-            Ok(()) => conform(alloc, &choices, switch, AsLists, config, ins, outs, faults),
+            Ok(()) => conform(rt.alloc(), question, AsLists, ins, outs, faults),
             Err(NoList::Recording(role)) => return Err(refuse(rt, matches, unsaid(role))),
             Err(NoList::Fault(fault)) => ended_by(&fault, faults),
         },
-        Some(options) => conform(alloc, &choices, switch, options, config, ins, outs, faults),
+        Some(options) => conform(rt.alloc(), question, options, ins, outs, faults),
     };
     let names = BySide {
         a: words.came,

@@ -2,7 +2,7 @@
 //! tried at the program (tests/run/conformance.py).
 
 use crate::texts::short_text;
-use afdx_command_conform::{AsLists, ByRole, Choices, Leeway, conform};
+use afdx_command_conform::{AsLists, ByRole, Choices, Leeway, Question, conform};
 use afdx_input_lines::Watched;
 use afdx_test_samples::{ShortText, base, equal, spelled};
 use afdx_text::Output;
@@ -20,17 +20,13 @@ fn conformed(alloc: Global, came: &str, left: &str) -> Result<(u8, ShortText), F
     };
     let mut output = Output::new(alloc, 0, Vec::new(alloc))?;
     let mut errors = Watched::new(Vec::new(alloc));
-    let config = base().as_bytes();
-    let judged = conform(
-        alloc,
-        &choices,
-        None,
-        AsLists,
-        config,
-        &mut inputs,
-        &mut output,
-        &mut errors,
-    );
+    let question = Question {
+        config: base().as_bytes(),
+        switch: None,
+        choices: &choices,
+    };
+    let (ins, outs, faults) = (&mut inputs, &mut output, &mut errors);
+    let judged = conform(alloc, question, AsLists, ins, outs, faults);
     let text = short_text(output.into_device().as_slice())?;
     Ok((judged.status, text))
 }

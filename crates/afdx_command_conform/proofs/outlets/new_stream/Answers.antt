@@ -8,12 +8,12 @@ use Rattle.afdx_command_conform.proofs.outlets.new_stream.Goals as goal
 
 pub returns-clause-stands : goal.returns-clause-stands
 returns-clause-stands c c' until time port l at there by =
-    let t = c.args.tables.now in
+    let t = c.args.rules.now.tables.now in
+    let s = c.args.outlet.system.0 in
     let row : LinkRow = link_row c.link.result.now in
     let is : row ≡ l = same_Some row l (sym c.link.ensures.row ∙ at) in
-    let here = slice_get-get_or t.systems c.args.system.0 no-system c.requires.system in
+    let here = slice_get-get_or t.systems s no-system c.requires.system in
     c.new.ensures.stands (terms_at t c' until l port) time (sym (c.rule_at-rule.ensures l at))
     (ap (λ (x : LinkRow). 1000 * x.latency_us) (sym is))
-    (byte-same t c.args.system.0 port (get_or t.systems c.args.system.0 no-system) c.byte_ns.result
-    c.link.ensures.lawful here there
-    (c.byte_ns.ensures.time (get_or t.systems c.args.system.0 no-system) here)) (sym by)
+    (byte-same t s port (get_or t.systems s no-system) c.byte_ns-byte_ns.result c.link.ensures.lawful here there
+    (c.byte_ns-byte_ns.ensures.time (get_or t.systems s no-system) here)) (sym by)

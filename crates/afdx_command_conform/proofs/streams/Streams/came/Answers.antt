@@ -5,6 +5,8 @@ use Rattle.std.proofs.lemmas.Option.{same_Some, slice_get-get_or}
 use Rattle.std.specs.List.{AllByRecursion}
 use Rattle.afdx_law_bounds.specs.Tables.{port_of}
 use Rattle.afdx_config.specs.Rows.{LinkRow, Rows, link_row}
+use Rattle.afdx_conform.specs.Explanations.{from_time}
+use Rattle.afdx_conform.specs.Marks.{arrival_of}
 use Rattle.afdx_conform.specs.Ranges.{most_held}
 use Rattle.afdx_police.specs.Arrival.{Arrival, arrival_with}
 use Rattle.afdx_conform.specs.LeewayOf.{leeway_of}
@@ -105,15 +107,18 @@ loop-rank-preserved c = record {
       (fresh-port t link row rank s c.link.ensures.lawful at is lt)) in
       let sees : c'.taps Left h.side (port_of t s) ≡ true =
       ap (λ (p : Taps). p Left h.side (port_of t s)) (sym taps) ∙ sym c.is_seen.ensures ∙ c.if-not-is_seen.false in
-      let from : arrival_with c.args.n h.time h.side h.port c.in_ok-share.share ≡ x =
-      ap (λ b. arrival_with c.args.n h.time h.side h.port b) (c.in_ok-share.ensures ∙ c.in_ok-bytes.ensures) in
+      let from : arrival_of c.new-arrived.result ≡ x = c.new-arrived.ensures.given
+      ∙ ap (λ b. arrival_with c.args.n h.time h.side h.port b) (c.in_ok-share.ensures ∙ c.in_ok-bytes.ensures) in
       come-next t c' until time h.side link row rank s x given lines c.come_to.new.kept c.link.ensures.lawful at is lt
       sees k.falling
-      (subst (λ (y : Arrival). AreKept t c' until None time (with_came key y before) lines c.come_to.new.kept) from
-      (c.in_ok-come_to.ensures c' until time before lines row at (any-in row.to rank s is lt) by le start
-      (subst (λ (g : Given). AllByRecursion (λ w. w.time ≤ h.time) g.came) (sym same) (all key))
+      (subst (λ (y : Arrival). time ≤ y.time → from_time c'.by.start ≤ y.time
+      → AllByRecursion (λ w. w.time ≤ y.time) (before key).came
+      → AreKept t c' until None time (with_came key y before) lines c.come_to.new.kept) from
+      (λ le' start' all'. c.in_ok-come_to.ensures c' until time before lines row at (any-in row.to rank s is lt) by
+      (λ z rule. c.new-arrived.ensures.judged z (rule ∙ sym (c.rule_at-rule.ensures row at))) le' start' all'
       (subst (λ (g : Given). length g.came + 1 < most_held) (sym same) (few key))
-      (c.loop-rank.invariant.kept c' until time given lines row at by taps le start all few k)));
+      (c.loop-rank.invariant.kept c' until time given lines row at by taps le start all few k)) le start
+      (subst (λ (g : Given). AllByRecursion (λ w. w.time ≤ h.time) g.came) (sym same) (all key)));
 }
 
 pub loop-rank-preserved-then-not-is_seen : goal.loop-rank-preserved-then-not-is_seen
