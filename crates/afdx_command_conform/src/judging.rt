@@ -171,7 +171,7 @@ impl<'a> JudgingRun<'a> {
             TellsAll k false before self.old start (O.written output.old) frames →
             OnOk result (TellsAll k false time self.new start (O.written output.new) frames) }
     {
-        if self.streams.ended.is_some() {
+        if self.streams.is_ended() {
             return Ok(());
         }
         let Some(until) = self.choices.until else {
@@ -199,7 +199,7 @@ impl<'a> JudgingRun<'a> {
             × TellsAll k true time self.new start (O.written output.new) frames
             × (is_some self.new.streams.ended ≡ true)) }
     {
-        if self.streams.ended.is_some() {
+        if self.streams.is_ended() {
             return Ok(());
         }
         match self.choices.until {

@@ -1,6 +1,6 @@
 //! All streams of the tables, and what is to be told of them.
 
-ghost use Rattle.std.specs.Prelude.{◌≡◌, ◌≤◌, ◌<◌, ◌+◌, [], ℕ, List, None, Some, IfNone, IfOk, IfSome, IsSome, OnOk, length};
+ghost use Rattle.std.specs.Prelude.{◌≡◌, ◌≤◌, ◌<◌, ◌+◌, [], ℕ, List, None, Some, IfNone, IfOk, IfSome, IsSome, OnOk, is_some, length};
 ghost use Rattle.afdx_config.specs.Rows.{Rows};
 ghost use Rattle.afdx_conform.specs.LeewayOf.{leeway_of};
 ghost use Rattle.afdx_conform.specs.LimitRanges.{most_bytes};
@@ -48,7 +48,7 @@ pub(crate) struct Streams<'a> {
     hints: Hints,
     spare: Spare,
     kept: KeptByKey,
-    pub ended: Option<u64>,
+    ended: Option<u64>,
 }
 
 impl<'a> Streams<'a> {
@@ -244,6 +244,13 @@ impl<'a> Streams<'a> {
     {
         self.kept.end(until);
         self.ended = Some(until);
+    }
+
+    /// Whether the recordings ended.
+    pub(crate) fn is_ended(&self) -> bool
+        ensures { result ≡ is_some self.now.ended }
+    {
+        self.ended.is_some()
     }
 
     /// How many streams aren't judged.

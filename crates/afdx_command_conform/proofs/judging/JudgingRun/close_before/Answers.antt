@@ -6,12 +6,12 @@ use Rattle.afdx_command_conform.proofs.FullLemmas.{not-ended, raised, said-end}
 use Rattle.afdx_command_conform.proofs.BegunLemmas.{begun-from}
 use Rattle.afdx_command_conform.proofs.judging.JudgingRun.close_before.Goals as goal
 
-pub returns-then-is_some-clause-stands : goal.returns-then-is_some-clause-stands
-returns-then-is_some-clause-stands g c k before start frames le latest h = (
+pub returns-then-is_ended-clause-stands : goal.returns-then-is_ended-clause-stands
+returns-then-is_ended-clause-stands g c k before start frames le latest h = (
   h.0,
   h.1,
   raised k frames before c.args.time c.args.self.now h.0 le
-      (λ end none said. absurd (true≢false (sym c.if-is_some.true ∙ c.is_some.ensures ∙ ap is_some none))) h.2,
+      (λ end none said. absurd (true≢false (sym c.if-is_ended.true ∙ c.is_ended.ensures ∙ ap is_some none))) h.2,
 )
 
 pub returns-in_default-clause-stands : goal.returns-in_default-clause-stands
@@ -36,7 +36,7 @@ returns-else-until-time-clause-stands g c k before start frames le latest h = (
 pub returns-then-until-time-clause-stands : goal.returns-then-until-time-clause-stands
 returns-then-until-time-clause-stands g c k before start frames le latest h =
     let said : k.1.until ≡ Some c.in-Some.until = sym (sym c.in-Some.is ∙ ap (λ x. x.until) h.1.choices_are) in
-    let none = not-ended c.args.self.now.streams.ended (sym c.is_some.ensures ∙ c.if-is_some.false) in
+    let none = not-ended c.args.self.now.streams.ended (sym c.is_ended.ensures ∙ c.if-is_ended.false) in
     let test = c.if-until-time.true in
     let in-time = h.2.running c.in-Some.until none said in
     on-ok (λ r. r.0) c.close.result
@@ -50,7 +50,7 @@ returns-then-until-time-clause-stands g c k before start frames le latest h =
 pub returns-then-until-time-clause-begun : goal.returns-then-until-time-clause-begun
 returns-then-until-time-clause-begun g c = λ k before start frames le latest h.
     let said : k.1.until ≡ Some c.in-Some.until = sym (sym c.in-Some.is ∙ ap (λ x. x.until) h.1.choices_are) in
-    let none = not-ended c.args.self.now.streams.ended (sym c.is_some.ensures ∙ c.if-is_some.false) in
+    let none = not-ended c.args.self.now.streams.ended (sym c.is_ended.ensures ∙ c.if-is_ended.false) in
     let test = c.if-until-time.true in
     let in-time = h.2.running c.in-Some.until none said in
     begun-from c.close.result k c.in-Some.until c.args.time None start _ frames (omega (arith, latest, in-time))

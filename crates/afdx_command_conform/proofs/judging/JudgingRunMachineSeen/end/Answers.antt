@@ -4,7 +4,7 @@ use Rattle.afdx_input_runs.specs.Joining.{frames_of}
 use Rattle.afdx_text.proofs.OutputLemmas.{on-err}
 use Rattle.afdx_command_conform.proofs.BegunLemmas.{begun-last, goes-last, on-err-all}
 use Rattle.afdx_command_conform.proofs.EndLemmas.{ends-all, known-end}
-use Rattle.afdx_command_conform.proofs.judging.JudgingMachineSeen.end.Goals as goal
+use Rattle.afdx_command_conform.proofs.judging.JudgingRunMachineSeen.end.Goals as goal
 
 pub returns-in_err-close_at_end-clause-begins : goal.returns-in_err-close_at_end-clause-begins
 returns-in_err-close_at_end-clause-begins g c = λ k start past h.

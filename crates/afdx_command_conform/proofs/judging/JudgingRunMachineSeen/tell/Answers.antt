@@ -9,7 +9,7 @@ use Rattle.afdx_command_conform.proofs.EarlyLemmas.{comes-next, stands-begun, st
 use Rattle.afdx_command_conform.proofs.EndLemmas.{are-few, latest-same}
 use Rattle.afdx_command_conform.proofs.FullLemmas.{stands-same}
 use Rattle.afdx_command_conform.proofs.ToldLemmas.{tells-next}
-use Rattle.afdx_command_conform.proofs.judging.JudgingMachineSeen.tell.Goals as goal
+use Rattle.afdx_command_conform.proofs.judging.JudgingRunMachineSeen.tell.Goals as goal
 
 pub returns-in_err-reach-clause-begins : goal.returns-in_err-reach-clause-begins
 returns-in_err-reach-clause-begins g c = λ k start past h.
