@@ -82,7 +82,8 @@ module _ {R : Type 0} (remaining : R → Option (List ℕ)) where
 
       first-by : (past : List (Item Seen)) (xs ys rest_x rest_y : List Arrival) (fx fy : Option RunFault)
           → ListsTo Came bytes_came xs fx → ListsTo Left bytes_left ys fy
-          → merge by_frame_time [] xs fx ys fy ≡ merge by_frame_time (frames_of past) rest_x fx rest_y fy → AreFirst past
+          → merge by_frame_time [] xs fx ys fy ≡ merge by_frame_time (frames_of past) rest_x fx rest_y fy →
+          AreFirst past
       first-by past xs ys rest_x rest_y fx fy lists_x lists_y is =
           let e = merge-extends by_frame_time (frames_of past) rest_x fx rest_y fy in record {
             came = record { next = xs; fault = fx };
