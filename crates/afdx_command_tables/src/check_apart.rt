@@ -11,7 +11,7 @@ ghost use Rattle.afdx_text.specs.Texts.{text_bytes};
 use crate::check_cascade::is_first;
 use afdx_admit::{cascade_apart, link_apart};
 use afdx_config::{Link, SwitchId, Switches, Tables};
-use afdx_text::{OutLine, Text};
+use afdx_text::{CheckLine, OutLine, Text};
 use std::alloc::AllocError;
 
 /// Adds the line of a link.
@@ -21,7 +21,7 @@ fn put_apart(text: &mut Text, tables: &Tables, link: &Link) -> Result<(), AllocE
         ≡ text_bytes text.old ++ spec.apart_of tables.now (link_row link.now)) }
 {
     let ns = link_apart(tables, link);
-    OutLine::Apart { vl: link.vl, ns }.put(text)
+    OutLine::Check(CheckLine::Apart { vl: link.vl, ns }).put(text)
 }
 
 /// Adds those of all links.
@@ -45,7 +45,7 @@ pub(crate) fn put_admitted(
     ensures { OnOk result (text_bytes text.new
         ≡ text_bytes text.old ++ spec.admitted_lines margins tables.now) }
 {
-    OutLine::Admitted.put(text)?;
+    OutLine::Check(CheckLine::Admitted).put(text)?;
     if margins {
         put_aparts(text, tables)
     } else {
@@ -67,7 +67,7 @@ fn put_apart_if_first(
         return Ok(());
     }
     let ns = cascade_apart(switches, link.vl);
-    OutLine::Apart { vl: link.vl, ns }.put(text)
+    OutLine::Check(CheckLine::Apart { vl: link.vl, ns }).put(text)
 }
 
 /// Adds those of the links that stand for the first time at this switch.
@@ -109,7 +109,7 @@ pub(crate) fn put_admitted_cascade(
     ensures { OnOk result (text_bytes text.new
         ≡ text_bytes text.old ++ cascade.admitted_cascade margins switches.now) }
 {
-    OutLine::Admitted.put(text)?;
+    OutLine::Check(CheckLine::Admitted).put(text)?;
     if margins {
         put_cascade_aparts(text, switches)
     } else {

@@ -15,7 +15,7 @@ use crate::check_tables::{CheckAnswer, CheckOptions, put_ports};
 use afdx_admit::{CascadeFault, admit_all, all_cascade_faults, way_latency};
 use afdx_config::{Link, SwitchId, Switches, SystemId, Tables};
 use afdx_frame::VlId;
-use afdx_text::{OutLine, Text};
+use afdx_text::{CheckLine, OutLine, Text};
 use std::alloc::{AllocError, Global};
 
 /// Adds the name of a switch and the lines of its ports.
@@ -31,7 +31,7 @@ fn put_switch(
         ++ spec.switch_lines margins switches.now switch.0) }
 {
     let name = switches.name(switch);
-    OutLine::Switch { name }.put(text)?;
+    OutLine::Check(CheckLine::Switch { name }).put(text)?;
     put_ports(text, switches.tables(switch), margins)
 }
 
@@ -63,11 +63,11 @@ fn put_end(
     if !link.goes_to(place) {
         return Ok(());
     }
-    OutLine::EndToEnd {
+    OutLine::Check(CheckLine::EndToEnd {
         vl: link.vl,
         system: tables.system(place).name.as_str(),
         ns,
-    }
+    })
     .put(text)
 }
 
@@ -201,9 +201,9 @@ fn put_cascade_fault(
 {
     let fault = fault.text(switches);
     let line = format!(in alloc; "{fault}")?;
-    OutLine::Denied {
+    OutLine::Check(CheckLine::Denied {
         line: line.as_str(),
-    }
+    })
     .put(text)
 }
 

@@ -19,7 +19,7 @@ use crate::check_apart::put_admitted;
 use afdx_admit::{AdmitFault, PortBounds, admit, all_faults, bounds_of};
 use afdx_config::{Link, SystemId, Tables};
 use afdx_frame::{LAST_PORT, Priority};
-use afdx_text::{OutLine, Text};
+use afdx_text::{CheckLine, OutLine, Text};
 use std::alloc::{AllocError, Global};
 
 /// Adds the line of an output port's bounds.
@@ -28,12 +28,12 @@ fn put_bounds(text: &mut Text, port: u8, bounds: &PortBounds) -> Result<(), Allo
         OnOk result (text_bytes text.new ≡ text_bytes text.old ++ port_line t port) }
 {
     let high = bounds.high;
-    OutLine::Bounds {
+    OutLine::Check(CheckLine::Bounds {
         port,
         high,
         low: bounds.low,
         buffer: bounds.buffer,
-    }
+    })
     .put(text)
 }
 
@@ -47,12 +47,12 @@ fn put_margin(text: &mut Text, port: u8, bounds: &PortBounds, link: &Link) -> Re
         Priority::High => Some(bounds.high),
         Priority::Low => bounds.low,
     };
-    OutLine::Margin {
+    OutLine::Check(CheckLine::Margin {
         port,
         vl: link.vl,
         bound,
         latency: 1000 * link.latency_us,
-    }
+    })
     .put(text)
 }
 
@@ -151,9 +151,9 @@ fn put_fault(
 {
     let fault = fault.text(tables);
     let line = format!(in alloc; "{fault}")?;
-    OutLine::Denied {
+    OutLine::Check(CheckLine::Denied {
         line: line.as_str(),
-    }
+    })
     .put(text)
 }
 

@@ -19,7 +19,7 @@ use afdx_input_lines::{RunFault, Watched};
 use afdx_input_sources::{
     Machine, NumberLine, PairOptions, RecordingOptions, SystemPorts, Tally, UnsaidPort,
 };
-use afdx_text::{ListedLine, OutLine, Sink, Site};
+use afdx_text::{OutLine, Sink, Site};
 use std::alloc::Global;
 use std::io::Read;
 
@@ -66,13 +66,13 @@ fn put_number<O: Sink>(
                 side: *side,
                 switch: name_in(described, *switch),
             };
-            let line = OutLine::Listed(ListedLine {
+            let line = OutLine::Listed {
                 kind: *kind,
                 time: *time,
                 site,
                 port: *port,
                 bytes,
-            });
+            };
             output.put(&line)
         }
         NumberLine::Skipped(reason) => {

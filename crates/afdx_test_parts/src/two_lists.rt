@@ -7,7 +7,7 @@ use afdx_input_lines::{ByRole, FrameKind, ListFault, OneOfTwo, Role, RunFault, W
 use afdx_input_runs::{Seen, run_two_lists};
 use afdx_input_sources::Machine;
 use afdx_test_samples::{all_right, equal};
-use afdx_text::{ListedLine, OutLine, Output, Sink, Site};
+use afdx_text::{OutLine, Output, Sink, Site};
 use std::alloc::{AllocError, Global};
 use std::io::Read;
 use std::test::Fail;
@@ -43,13 +43,13 @@ impl Machine<Seen> for Noting {
             side: head.heading.side,
             switch: "",
         };
-        output.put(&OutLine::Listed(ListedLine {
+        output.put(&OutLine::Listed {
             kind: FrameKind::Raw,
             time: head.heading.time,
             site,
             port: head.heading.port,
             bytes,
-        }))
+        })
     }
 
     fn end<O: Sink>(&mut self, output: &mut O) -> Result<(), RunFault> {

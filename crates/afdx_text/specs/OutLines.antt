@@ -8,10 +8,12 @@ use Rattle.afdx_input_lines.specs.declared.frame_line.FrameKind.TheVariants.{Goo
 use Rattle.afdx_police.specs.declared.shape.Reason.{Reason}
 use Rattle.afdx_police.specs.Words.{reason_word}
 use Rattle.afdx_receive.specs.Words.{drop_word}
+use Rattle.afdx_text.specs.declared.check_lines.CheckLine.{CheckLine}
+use Rattle.afdx_text.specs.declared.check_lines.CheckLine.TheVariants.{Bounds, Margin, Admitted, Denied}
+use Rattle.afdx_text.specs.declared.check_lines.CheckLine.TheVariants.{Switch, EndToEnd, Apart}
 use Rattle.afdx_text.specs.declared.line.OutLine.{OutLine}
 use Rattle.afdx_text.specs.declared.line.OutLine.TheVariants.{Verdict, Lost, Left, Message, Unread}
-use Rattle.afdx_text.specs.declared.line.OutLine.TheVariants.{Listed, Remark, Refused, Bounds, Margin, Admitted}
-use Rattle.afdx_text.specs.declared.line.OutLine.TheVariants.{Denied, Switch, EndToEnd, Apart, Conform}
+use Rattle.afdx_text.specs.declared.line.OutLine.TheVariants.{Listed, Remark, Refused, Check, Conform}
 use Rattle.afdx_text.specs.ConformLines.{conform_text}
 pub use Rattle.afdx_text.specs.Places.{side_text, place_text, site_text}
 
@@ -115,42 +117,49 @@ end_to_end_line vl system ns =
 abbrev pub apart_line : ℕ → Option ℕ → List ℕ
 apart_line vl ns = codes "apart " ++ decimal vl ++ codes " " ++ bound_text ns ++ codes "\n"
 
+-- a line of `check`
+abbrev pub check_line : CheckLine → List ℕ
+check_line (Bounds port high low buffer) = bounds_line port high low buffer
+check_line (Margin port vl bound latency) = margin_line port vl.0 bound latency
+check_line Admitted = admitted_line
+check_line (Denied line) = denied_line line.now
+check_line (Switch name) = switch_line name.now
+check_line (EndToEnd vl system ns) = end_to_end_line vl.0 system.now ns
+check_line (Apart vl ns) = apart_line vl.0 ns
+
 abbrev pub line_text : OutLine → List ℕ
 line_text (Verdict n site reason) = verdict_line n (site_text site) reason
 line_text (Lost n site port) = loss_line n (site_text site) port
-line_text (Left left) =
-    departure_line left.too_old left.n left.time (site_text left.site) left.port
+line_text (Left n time site port is_too_old) =
+    departure_line is_too_old n time (site_text site) port
 line_text (Message time system vl bytes) = message_line time system.now vl.0 bytes.now
 line_text (Unread time system n why) = drop_line time system.now n (drop_word why)
-line_text (Listed listed) =
-    frame_line listed.kind (site_text listed.site) listed.port listed.time listed.bytes.now
+line_text (Listed kind time site port bytes) =
+    frame_line kind (site_text site) port time bytes.now
 line_text (Remark word n) = remark_line word.now n
 line_text (Refused n word) = refused_line n word.now
-line_text (Bounds port high low buffer) = bounds_line port high low buffer
-line_text (Margin port vl bound latency) = margin_line port vl.0 bound latency
-line_text Admitted = admitted_line
-line_text (Denied line) = denied_line line.now
-line_text (Switch name) = switch_line name.now
-line_text (EndToEnd vl system ns) = end_to_end_line vl.0 system.now ns
-line_text (Apart vl ns) = apart_line vl.0 ns
+line_text (Check line) = check_line line
 line_text (Conform line) = conform_text line
 
--- at least as many bytes as a line has
+-- at least as many bytes as a line of `check` has, and any line
+abbrev pub longest_check : CheckLine → ℕ
+longest_check (Bounds port high low buffer) = 128
+longest_check (Margin port vl bound latency) = 128
+longest_check Admitted = 128
+longest_check (Denied line) = 128 + length line.now
+longest_check (Switch name) = 128 + length name.now
+longest_check (EndToEnd vl system ns) = 128 + length system.now
+longest_check (Apart vl ns) = 128
+
 abbrev pub longest : OutLine → ℕ
 longest (Verdict n site reason) = 128 + length site.switch.now
 longest (Lost n site port) = 128 + length site.switch.now
-longest (Left left) = 128 + length left.site.switch.now
+longest (Left n time site port is_too_old) = 128 + length site.switch.now
 longest (Message time system vl bytes) = 128 + length system.now + 2 * length bytes.now
 longest (Unread time system n why) = 128 + length system.now
-longest (Listed listed) =
-    128 + length listed.site.switch.now + 2 * length listed.bytes.now
+longest (Listed kind time site port bytes) =
+    128 + length site.switch.now + 2 * length bytes.now
 longest (Remark word n) = 128 + length word.now
 longest (Refused n word) = 128 + length word.now
-longest (Bounds port high low buffer) = 128
-longest (Margin port vl bound latency) = 128
-longest Admitted = 128
-longest (Denied line) = 128 + length line.now
-longest (Switch name) = 128 + length name.now
-longest (EndToEnd vl system ns) = 128 + length system.now
-longest (Apart vl ns) = 128
+longest (Check line) = longest_check line
 longest (Conform line) = 256

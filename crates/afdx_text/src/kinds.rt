@@ -12,7 +12,6 @@ use crate::numeral::Numeral;
 use crate::piece::{put, put_digits, put_number, put_piece, put_small};
 use crate::place::LinePlace;
 use crate::site::Site;
-use crate::sited::{DepartureLine, ListedLine};
 use afdx_input_lines::FrameKind;
 use afdx_police::Reason;
 use afdx_receive::DropReason;
@@ -248,26 +247,36 @@ impl LastNumbers {
         put(room, at, b"\n")
     }
 
-    /// `D n time site port`, or `T ..`.
+    /// Takes the time of the next line, in ns.
+    #[inline(always)]
+    pub(crate) fn set_time(&mut self, time: u64)
+        ensures { self.new.time.number ≡ time }
+    {
+        self.time.set(time);
+    }
+
+    /// `D n time site port`, or `T ..`: of a frame, its line and the time, in ns.
     #[inline(always)]
     pub(crate) fn put_departure(
         &mut self,
         room: &mut [u8],
         at: usize,
-        left: &DepartureLine<'_>,
+        of: (u64, u64),
+        site: Site<'_>,
+        port: u8,
+        too_old: bool,
     ) -> usize
-        requires { at + 128 + length left.now.site.switch.now ≤ length room.old }
-        ensures within { result ≤ at + 128 + length left.now.site.switch.now }
-        ensures text { take result room.new ≡ take at room.old
-            ++ departure_line left.now.too_old left.now.n left.now.time
-            (site_text left.now.site) left.now.port }
+        requires { at + 128 + length site.switch.now ≤ length room.old }
+        ensures within { result ≤ at + 128 + length site.entry.switch.now }
+        ensures text { take result room.new
+            ≡ take at room.old ++ departure_line too_old of.0 of.1 (site_text site.entry) port }
     {
-        self.n.set(left.n);
-        self.time.set(left.time);
-        if left.site.switch.is_empty() {
-            self.put_left(room, at, left.site.side, left.port, left.too_old)
+        self.n.set(of.0);
+        self.time.set(of.1);
+        if site.switch.is_empty() {
+            self.put_left(room, at, site.side, port, too_old)
         } else {
-            self.put_left(room, at, left.site, left.port, left.too_old)
+            self.put_left(room, at, site, port, too_old)
         }
     }
 
@@ -313,53 +322,53 @@ impl LastNumbers {
         self.put_unread(room, at, name, why)
     }
 
-    /// The line of a frame list, at a place.
+    /// `K time place port hex`, with the time that is kept.
     #[inline(never)]
     fn put_listed_at<P: LinePlace>(
-        &mut self,
+        &self,
         room: &mut [u8],
         at: usize,
-        listed: &ListedLine<'_>,
+        kind: FrameKind,
         place: P,
+        port: u8,
+        bytes: &[u8],
     ) -> usize
-        requires { at + 128 + P.named place + 2 * length listed.now.bytes.now ≤ length room.old }
-        ensures within { result ≤ at + 128 + P.named place + 2 * length listed.now.bytes.now }
+        requires { at + 128 + P.named place + 2 * length bytes.now ≤ length room.old }
+        ensures within { result ≤ at + 128 + P.named place + 2 * length bytes.now }
         ensures text { take result room.new ≡ take at room.old
-            ++ frame_line listed.now.kind (P.text place) listed.now.port listed.now.time
-            listed.now.bytes.now }
+            ++ frame_line kind (P.text place) port self.now.time.number bytes.now }
     {
-        self.time.set(listed.time);
-        let at = put_kind(room, at, listed.kind);
+        let at = put_kind(room, at, kind);
         let at = self.time.put(room, at);
         let at = put(room, at, b" ");
         let at = place.put(room, at);
         let at = put(room, at, b" ");
-        let at = put_small(room, at, listed.port);
+        let at = put_small(room, at, port);
         let at = put(room, at, b" ");
-        let at = put_digits(room, at, listed.bytes);
+        let at = put_digits(room, at, bytes);
         put(room, at, b"\n")
     }
 
-    /// `K time site port hex`.
+    /// `K time site port hex`, with the time that is kept.
     #[inline(always)]
     pub(crate) fn put_listed(
-        &mut self,
+        &self,
         room: &mut [u8],
         at: usize,
-        listed: &ListedLine<'_>,
+        kind: FrameKind,
+        site: Site<'_>,
+        port: u8,
+        bytes: &[u8],
     ) -> usize
-        requires { at + 128 + length listed.now.site.switch.now + 2 * length listed.now.bytes.now
-            ≤ length room.old }
-        ensures within { result
-            ≤ at + 128 + length listed.now.site.switch.now + 2 * length listed.now.bytes.now }
+        requires { at + 128 + length site.switch.now + 2 * length bytes.now ≤ length room.old }
+        ensures within { result ≤ at + 128 + length site.entry.switch.now + 2 * length bytes.now }
         ensures text { take result room.new ≡ take at room.old
-            ++ frame_line listed.now.kind (site_text listed.now.site) listed.now.port
-            listed.now.time listed.now.bytes.now }
+            ++ frame_line kind (site_text site.entry) port self.now.time.number bytes.now }
     {
-        if listed.site.switch.is_empty() {
-            self.put_listed_at(room, at, listed, listed.site.side)
+        if site.switch.is_empty() {
+            self.put_listed_at(room, at, kind, site.side, port, bytes)
         } else {
-            self.put_listed_at(room, at, listed, listed.site)
+            self.put_listed_at(room, at, kind, site, port, bytes)
         }
     }
 }

@@ -22,7 +22,7 @@ use afdx_frame::{Side, VlId};
 use afdx_input_lines::{FrameKind, Handed, RunFault, Watched};
 use afdx_input_sources::{Machine, MessageLines, run_list};
 use afdx_send::{Emission, SendFault, Sender};
-use afdx_text::{AtOnce, ListedLine, OutLine, Sink, Site, Text};
+use afdx_text::{AtOnce, OutLine, Sink, Site, Text};
 use std::alloc::{AllocError, Global};
 use std::io::{Read, Write};
 
@@ -52,7 +52,7 @@ fn put_emission<O: Sink>(
     ensures front { OnErr result (AppendsFront (O.written output.old) (O.written output.new)
         (emission_lines port.entry.switch.now port.entry.number (sending_of emission.now))) }
 {
-    let on_a = OutLine::Listed(ListedLine {
+    let on_a = OutLine::Listed {
         kind: FrameKind::Raw,
         time: emission.time,
         site: Site {
@@ -61,8 +61,8 @@ fn put_emission<O: Sink>(
         },
         port: port.number,
         bytes: emission.a.as_slice(),
-    });
-    let on_b = OutLine::Listed(ListedLine {
+    };
+    let on_b = OutLine::Listed {
         kind: FrameKind::Raw,
         time: emission.time,
         site: Site {
@@ -71,7 +71,7 @@ fn put_emission<O: Sink>(
         },
         port: port.number,
         bytes: emission.b.as_slice(),
-    });
+    };
     output.put(&on_a)?;
     output.put(&on_b)
 }

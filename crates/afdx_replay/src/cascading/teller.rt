@@ -31,7 +31,7 @@ use afdx_command_tables::{NO_COUNTS, Summary};
 use afdx_config::{SwitchId, Switches};
 use afdx_end_systems::Systems;
 use afdx_input_lines::{RunFault, Watched};
-use afdx_text::{DepartureLine, OutLine, Sink, Site};
+use afdx_text::{OutLine, Sink, Site};
 use std::alloc::{AllocError, Global};
 use std::io::Write;
 
@@ -103,7 +103,7 @@ impl<'a, D: Write> Teller<'a, D> {
             (departure_line false sent.now.tag sent.now.time
             (place_text sent.now.side switch.now) sent.now.port)) }
     {
-        let line = OutLine::Left(DepartureLine {
+        let line = OutLine::Left {
             n: sent.tag,
             time: sent.time,
             site: Site {
@@ -112,7 +112,7 @@ impl<'a, D: Write> Teller<'a, D> {
             },
             port: sent.port,
             too_old: false,
-        });
+        };
         output.put(&line)?;
         self.counts.departed += 1;
         Ok(())

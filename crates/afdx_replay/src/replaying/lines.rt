@@ -22,7 +22,7 @@ use afdx_network::Departed;
 use afdx_police::Reason;
 use afdx_receive::Reception;
 use afdx_switch::{PortSet, Verdict};
-use afdx_text::{DepartureLine, OutLine, Sink, Site};
+use afdx_text::{OutLine, Sink, Site};
 
 /// Why the frame was dropped, if it was.
 pub(crate) fn reason_of(verdict: &Verdict) -> Option<Reason>
@@ -117,7 +117,7 @@ pub(crate) fn put_departure<O: Sink>(
         (departure_line left.too_old left.item.tag left.end
         (place_text departed.now.side switch.now) (giving_port departed.now.departure))) }
 {
-    let line = OutLine::Left(DepartureLine {
+    let line = OutLine::Left {
         n: departed.departure.tag(),
         time: departed.departure.time(),
         site: Site {
@@ -126,7 +126,7 @@ pub(crate) fn put_departure<O: Sink>(
         },
         port: departed.departure.port(),
         too_old: departed.departure.too_old(),
-    });
+    };
     output.put(&line)
 }
 
