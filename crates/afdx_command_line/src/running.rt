@@ -14,8 +14,8 @@ use afdx_command_words::{
 use afdx_frame::BySide;
 use afdx_replay::{
     CommandedRule, Ended, InputEnded, ListEnded, Output, PairOptions, Peeked, Placing,
-    RecordingOptions, Sink, SitedInput, Watched, finish, list_and_count, list_pair_and_count,
-    police_input, replay_input, send_and_count,
+    RecordingOptions, ReplaySettings, Sink, SitedInput, Watched, finish, list_and_count,
+    list_pair_and_count, police_input, replay_input, send_and_count,
 };
 use afdx_text::WholeLines;
 use clap::ArgMatches;
@@ -207,18 +207,13 @@ fn run_over<P: Placing + Drop, A: Recordings<P>, O: Sink, E: Write>(
     match run {
         Run::Police(rule) => { police_input(rt.alloc(), options, rule, input, lines, faults) }
         Run::Replay(replaying) => {
-            let early = early_lines(rt, replaying.options.explains_drops);
-            let (admission, config) = (replaying.options.admission, replaying.config);
-            let ended = replay_input(
-                rt.alloc(),
-                admission,
+            let settings = ReplaySettings {
+                config: replaying.config,
+                admission: replaying.options.admission,
                 options,
-                config,
-                input,
-                lines,
-                faults,
-                early,
-            );
+                early: early_lines(rt, replaying.options.explains_drops),
+            };
+            let ended = replay_input(rt.alloc(), settings, input, lines, faults);
             ended.0
         }
         Run::List { config } => ended_of(input.list(rt, options, config, lines, faults)),

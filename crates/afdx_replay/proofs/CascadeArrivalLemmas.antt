@@ -1,6 +1,6 @@
 -- What a replay of several switches tells of an arrival more, and of one that came too early.
 use Rattle.std.proofs.Common.{◌≡◌, ℕ, ◌++◌, ◌∷◌, List, [], length, refl, ap, sym, ◌∙◌, subst}
-use Rattle.std.proofs.Common.{append-nil, Option, Some, None, Bool, true, false}
+use Rattle.std.proofs.Common.{Option, Some, Bool, true, false}
 use Rattle.std.specs.Io.KnownBytes.{Appends}
 use Rattle.afdx_cascade.specs.Cascade.{TellsArrival}
 use Rattle.afdx_cascade.specs.Plans.{plan_of, tables_of}
@@ -19,16 +19,17 @@ use Rattle.afdx_network.specs.Network as network
 use Rattle.afdx_police.specs.Verdicts.{is_over_rate}
 use Rattle.afdx_police.specs.declared.shape.Reason.{Reason}
 use Rattle.afdx_switch.specs.Verdicts.{reason_of}
-use Rattle.afdx_text.proofs.TellingLemmas.{Tells-more, Tells-none}
 use Rattle.afdx_text.specs.OutLines.{place_text, verdict_line}
 use Rattle.afdx_text.specs.Telling.{Tells}
-use Rattle.afdx_replay.specs.cascading.Early.{HearsEarly, IsLineOn, TellsEarly, early_line_at}
+use Rattle.afdx_replay.specs.Early.{HearsText, IsLineOn, IsOneMore, early_line}
+use Rattle.afdx_replay.specs.cascading.Early.{AreEarlyLines, HearsEarly, IsLineOf}
 use Rattle.afdx_replay.specs.cascading.Text.{event_lines}
 use Rattle.afdx_input_runs.specs.ListText.{switch_name}
 use Rattle.afdx_replay.specs.cascading.Told.{SystemsAre, TellsOne}
 use Rattle.afdx_replay.specs.replaying.Replayed.{Known}
 use Rattle.afdx_replay.specs.replaying.Text.{loss_lines, with_admission}
 use Rattle.afdx_replay.proofs.CascadeEventLemmas.{systems-kept}
+use Rattle.afdx_replay.proofs.EarlyLemmas.{hears-more, hears-same, line-on}
 use Rattle.afdx_replay.proofs.ReplayLemmas.{lines-told}
 
 -- the lines of a verdict, and of the copies that it lost, at a place
@@ -77,78 +78,52 @@ module _ (s : List NamedRows) (before : List SwitchEvent) (b : Brought) (h : Swi
 
   module _ {D : Type 0} (contents : D → Option (List ℕ)) (reason : Option Reason)
       (is : reason ≡ network.reason_in b.verdict) where
-    over-is : (over : Bool) → is_over_rate reason ≡ over
-        → is_over_rate (reason_of (tables_of s b.switch) (came_to b.switch before) tells.arrival) ≡ over
-    over-is over e = sym (ap is_over_rate (is ∙ tells.verdict.reason)) ∙ e
+    abbrev Line : List ℕ → Type 0
+    Line = IsLineOf s b.switch before (Came (admission_after (tables_of s b.switch) (came_to b.switch before)
+        tells.arrival))
 
-    more : (first drops after : Watched D) (over : Bool) (line : List ℕ) → is_over_rate reason ≡ over
-        → IsLineOn s b.switch before
-        (admission_after (tables_of s b.switch) (came_to b.switch before) tells.arrival) over line
-        → Tells contents drops after line → TellsEarly contents s first drops before
-        → TellsEarly contents s first after (h ∷ before)
-    more first drops after over line e on told was =
-        subst (λ g. TellsEarly contents s first after (g ∷ before)) (sym tells.is) (record {
-          text = was.text ++ line;
-          lines = record {
-            before = was.text;
-            line = line;
-            are_before = was.lines;
-            is = subst (λ (o : Bool). IsLineOn s b.switch before
-                (admission_after (tables_of s b.switch) (came_to b.switch before) tells.arrival) o line)
-                (sym (over-is over e)) on;
-            whole = refl;
-          };
-          told = Tells-more contents first drops after was.text line was.told told;
-        })
+    -- what a device hears then
+    hears : (start early : Option (Watched D))
+        → HearsText contents (IsOneMore (AreEarlyLines s before) Line) start early
+        → HearsEarly contents s start early (h ∷ before)
+    hears start early now = subst (λ g. HearsEarly contents s start early (g ∷ before)) (sym tells.is) now
+
+    over-is : (over : Bool) (line : List ℕ) → is_over_rate reason ≡ over
+        → IsLineOn (tables_of s b.switch) (came_to b.switch before) tells.arrival
+        (Some (place_text tells.arrival.side (switch_name s b.switch))) over line → Line line
+    over-is over line =
+        line-on (tables_of s b.switch) (came_to b.switch before) tells.arrival reason (is ∙ tells.verdict.reason)
+        (Some (place_text tells.arrival.side (switch_name s b.switch))) over line
 
     -- it was dropped for its link's rate
     pub heard-early : (name : List ℕ) (start : Option (Watched D)) (drops after : Watched D)
         → name ≡ switch_name s b.switch → is_over_rate reason ≡ true
-        → Tells contents drops after (early_line_at b.tag (place_text b.side name) b.early)
+        → Tells contents drops after (early_line b.tag (Some (place_text b.side name)) b.early)
         → HearsEarly contents s start (Some drops) before → HearsEarly contents s start (Some after) (h ∷ before)
-    heard-early name None drops after named over told was = was
-    heard-early name (Some first) drops after named over told was =
-        more first drops after true (early_line_at b.tag (place_text b.side name) b.early) over (
+    heard-early name start drops after named over told was =
+        hears start (Some after) (hears-more contents (AreEarlyLines s before) Line start drops after
+        (early_line b.tag (Some (place_text b.side name)) b.early)
+        (over-is true (early_line b.tag (Some (place_text b.side name)) b.early) over (
           b.early,
           subst (λ (o : Bool). IsWait o (tables_of s b.switch) (came_to b.switch before) tells.arrival b.early)
-              (over-is true over) tells.early,
-          ap (λ n. early_line_at n (place_text b.side name) b.early) tells.tag
-              ∙ ap (λ z. early_line_at tells.arrival.tag (place_text z name) b.early) tells.side
-              ∙ ap (λ n. early_line_at tells.arrival.tag (place_text tells.arrival.side n) b.early) named,
-        ) told was
+              (sym (ap is_over_rate (is ∙ tells.verdict.reason)) ∙ over) tells.early,
+          ap (λ n. early_line n (Some (place_text b.side name)) b.early) tells.tag
+              ∙ ap (λ z. early_line tells.arrival.tag (Some (place_text z name)) b.early) tells.side
+              ∙ ap (λ n. early_line tells.arrival.tag (Some (place_text tells.arrival.side n)) b.early) named,
+        )) told was)
 
     -- or wasn't
-    pub heard-same : (start : Option (Watched D)) (drops : Watched D) → is_over_rate reason ≡ false
-        → HearsEarly contents s start (Some drops) before → HearsEarly contents s start (Some drops) (h ∷ before)
-    heard-same None drops over was = was
-    heard-same (Some first) drops over was =
-        more first drops drops false [] over refl (Tells-none contents drops) was
+    pub heard-same : (start early : Option (Watched D)) → is_over_rate reason ≡ false
+        → HearsEarly contents s start early before → HearsEarly contents s start early (h ∷ before)
+    heard-same start early over was =
+        hears start early (hears-same contents (AreEarlyLines s before) Line start early (over-is false [] over refl)
+        was)
 
 module _ (s : List NamedRows) (before : List SwitchEvent) (h : SwitchEvent) where
-  -- there is nobody to tell
-  pub heard-none : {D : Type 0} (contents : D → Option (List ℕ)) (start early : Option (Watched D))
-      → ((drops : Watched D) → early ≡ Some drops → ⊥)
-      → HearsEarly contents s start early before → HearsEarly contents s start early (h ∷ before)
-  heard-none contents None None none was = was
-  heard-none contents (Some first) None none was = was
-  heard-none contents start (Some drops) none was = absurd (none drops refl)
-
   -- of a departure nothing is told
   pub heard-left : (k : ℕ) (d : Departure) → h ≡ event_at k (Left d) → {D : Type 0} (contents : D → Option (List ℕ))
       (start early : Option (Watched D)) → HearsEarly contents s start early before
       → HearsEarly contents s start early (h ∷ before)
-  heard-left k d is contents None None was = was
-  heard-left k d is contents (Some first) None was = was
-  heard-left k d is contents None (Some drops) was = was
-  heard-left k d is contents (Some first) (Some drops) was =
-      subst (λ e. TellsEarly contents s first drops (e ∷ before)) (sym is) (record {
-        text = was.text;
-        lines = record {
-          before = was.text;
-          line = [];
-          are_before = was.lines;
-          is = refl;
-          whole = sym (append-nil was.text);
-        };
-        told = was.told;
-      })
+  heard-left k d is contents start early was =
+      subst (λ e. HearsEarly contents s start early (e ∷ before)) (sym is)
+      (hears-same contents (AreEarlyLines s before) (IsLineOf s k before (Left d)) start early refl was)

@@ -47,9 +47,9 @@ use Rattle.afdx_input_lines.specs.declared.frame_line.Heading.{Heading}
 use Rattle.afdx_input_lines.specs.declared.watched.Watched.{Watched}
 use Rattle.afdx_input_sources.specs.declared.becoming.RecordingOptions.{RecordingOptions}
 use Rattle.afdx_text.proofs.OutputLemmas.{whole_front}
-use Rattle.afdx_text.proofs.TellingLemmas.{Tells-none}
 use Rattle.afdx_replay.specs.Inputs.{answer_of}
-use Rattle.afdx_replay.specs.cascading.Early.{HearsEarly}
+use Rattle.afdx_replay.specs.cascading.Early.{AreEarlyLines, HearsEarly}
+use Rattle.afdx_replay.proofs.EarlyLemmas.{hears-start}
 use Rattle.afdx_replay.specs.cascading.Input.{Answering, PairAnswers, Replays, TellsReplay}
 use Rattle.afdx_replay.specs.cascading.Items.{BeginsItems, TellsAll, TellsItems}
 use Rattle.afdx_replay.specs.cascading.Ran.{Answers, HearsSoFar, WritesAll, WritesList, WritesSoFar, WritesSome, lists}
@@ -255,10 +255,6 @@ module _ (ss : List NamedRows) (options : RecordingOptions) (done told begins : 
 -- ---- a replay that is handed nothing
 
 module _ {D : Type 0} (contents : D → Option (List ℕ)) (ss : List NamedRows) where
-  hears-none : (early : Option (Watched D)) → HearsEarly contents ss early early []
-  hears-none None = tt
-  hears-none (Some drops) = record { text = []; lines = refl; told = Tells-none contents drops }
-
   pub none-so-far : (early : Option (Watched D)) (output : Known)
       → WritesSoFar ss [] output output × HearsSoFar contents ss [] early early
   unfolding cascade_text
@@ -271,7 +267,7 @@ module _ {D : Type 0} (contents : D → Option (List ℕ)) (ss : List NamedRows)
       brought = λ k port side other joined. nothing-brought side k port other;
       written = Appends-nil output;
     },
-    record { events = []; first = refl; at_line = refl; heard = hears-none early },
+    record { events = []; first = refl; at_line = refl; heard = hears-start contents (AreEarlyLines ss []) early refl },
   )
 
   -- a new replay tells this device
@@ -289,7 +285,8 @@ module _ {D : Type 0} (contents : D → Option (List ℕ)) (ss : List NamedRows)
     systems_are = subst (λ (v : Vec Systems Global). SystemsAre ss v.items []) (sym systems) has.systems_are;
     counted = counts ∙ has.counted;
     written = has.written;
-    heard = subst (λ e. HearsEarly contents ss early e []) (sym is) (hears-none early);
+    heard = subst (λ e. HearsEarly contents ss early e []) (sym is)
+        (hears-start contents (AreEarlyLines ss []) early refl);
   }
 
   -- so far it has told nothing

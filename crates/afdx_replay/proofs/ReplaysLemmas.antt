@@ -26,7 +26,15 @@ use Rattle.afdx_input_sources.specs.Engine.{Item}
 use Rattle.afdx_input_sources.specs.Items.{arrivals}
 use Rattle.afdx_input_lines.specs.declared.frame_line.Heading.{Heading}
 use Rattle.afdx_replay.specs.declared.replaying.run.Replay.{Replay}
-use Rattle.afdx_replay.proofs.ReplayLemmas.{are-some, are-so-far}
+use Rattle.afdx_replay.proofs.ReplayLemmas.{are-some, are-so-far, told-done}
+use Rattle.afdx_input_lines.specs.FrameLines.{listed_frame}
+use Rattle.afdx_input_lines.specs.Lines.{lines_of}
+use Rattle.afdx_input_sources.specs.Items.{thing_of}
+use Rattle.afdx_input_sources.specs.ListRun.{ListAnswers}
+use Rattle.afdx_input_sources.specs.Listed.{frames}
+use Rattle.afdx_input_sources.specs.Stops.{StopsAt}
+use Rattle.afdx_input_sources.proofs.ListRunLemmas.{answers-err, answers-ok}
+use Rattle.afdx_command_tables.specs.Counts.{with_lines}
 use Rattle.afdx_command_tables.specs.Commands.{status_of_answer}
 use Rattle.afdx_command_tables.specs.declared.summary.Summary.{Summary}
 use Rattle.afdx_replay.specs.Inputs.{answer_of, summary_in, tally_in, EndsInputAs}
@@ -38,13 +46,14 @@ use Rattle.afdx_replay.specs.policing.Text as policing
 use Rattle.afdx_replay.specs.policing.Told as police_told
 use Rattle.afdx_replay.specs.declared.policing.run.Police.{Police}
 use Rattle.afdx_text.proofs.OutputLemmas.{whole_front as front-whole}
-use Rattle.afdx_replay.specs.replaying.Early.{ExplainsAll, ExplainsItems, ExplainsSome, HearsEarly, HearsMost}
+use Rattle.afdx_replay.specs.replaying.Early.{AreEarlyLines, HearsEarly, HearsMost}
 use Rattle.afdx_replay.specs.replaying.Input.{Hears, Replays, Taking, Writes, WritesPromised, counts_of}
 use Rattle.afdx_replay.specs.replaying.PromisedRun.{IsAsPromised, WritesPromisedSoFar, WritesPromisedSome}
-use Rattle.afdx_replay.specs.replaying.Replayed.{Known, ToldAll, WritesSoFar, WritesSome}
+use Rattle.afdx_replay.specs.replaying.Replayed.{Known, ToldAll, WritesAll, WritesSoFar, WritesSome}
 use Rattle.afdx_replay.specs.replaying.Text.{replay_text}
 use Rattle.afdx_replay.proofs.AdmittedRunLemmas.{latest-most, as-promised, so-far-promised, some-promised}
-use Rattle.afdx_replay.proofs.EarlyLemmas.{early-start}
+use Rattle.afdx_replay.specs.replaying.Told.{BeginsItems, TellsAll, TellsItems}
+use Rattle.afdx_replay.proofs.EarlyLemmas.{hears-start}
 
 -- ---- the arrivals are a run of admitted tables
 
@@ -117,60 +126,89 @@ module _ {D : Type 0} (contents : D → Option (List ℕ)) (t : Rows) (takes : T
       }
 
 -- what the machine has told of the items that it was handed
-module _ {D : Type 0} (contents : D → Option (List ℕ)) (t : Rows) (takes : Taking) (early now : Option (Watched D))
-    (replay : Replay) (old new : Known) where
+module _ {D : Type 0} (contents : D → Option (List ℕ)) (t : Rows) (early : Option (Watched D)) (replay : Replay D)
+    (old new : Known) where
   either : (items : List (Item Heading))
-      → ExplainsItems contents (t, early) replay now old new items
-      ⊎ ExplainsSome contents (t, early) now old new items
-      → WritesSome t old new (arrivals items) × HearsMost contents t early now (arrivals items)
-  either items (inl a) = (are-some _ _ _ _ _ _ _ a.0.told, inl a.1)
+      → TellsItems contents (t, early) replay old new items ⊎ BeginsItems contents (t, early) replay old new items
+      → WritesSome t old new (arrivals items) × HearsMost contents t early replay.early (arrivals items)
+  either items (inl a) = (are-some _ _ _ _ _ _ _ a.told, inl a.heard)
   either items (inr b) = b
 
-  pub replays-told : (r : Result InputCount RunFault)
+  pub replays-told : (takes : Taking) (r : Result InputCount RunFault)
       → ((past : List Arrival) (answer : Result InputCount RunFault) → takes past answer → DontGoBack past)
-      → Took (ExplainsAll contents (t, early) replay now old new)
-      (ExplainsItems contents (t, early) replay now old new) (ExplainsSome contents (t, early) now old new) takes r
-      → Replays t takes (HearsSo contents t takes early now old new) old new (answer_of replay.counts r)
-  replays-told r orders (items, taken, told) =
-      replays-by contents t takes early now old new (arrivals items) r replay.counts taken
+      → Took (TellsAll contents (t, early) replay old new) (TellsItems contents (t, early) replay old new)
+      (BeginsItems contents (t, early) replay old new) takes r
+      → Replays t takes (HearsSo contents t takes early replay.early old new) old new (answer_of replay.counts r)
+  replays-told takes r orders (items, taken, told) =
+      let hears = HearsEarly contents t early replay.early (arrivals items) in
+      replays-by contents t takes early replay.early old new (arrivals items) r replay.counts taken
       (orders (arrivals items) r taken)
-      (by-more r (ExplainsAll contents (t, early) replay now old new items)
-      (ExplainsItems contents (t, early) replay now old new items)
-      (ExplainsItems contents (t, early) replay now old new items
-      ⊎ ExplainsSome contents (t, early) now old new items)
-      (ToldAll t replay.counts old new (arrivals items) × HearsEarly contents t early now (arrivals items))
-      (WritesSoFar t old new (arrivals items) × HearsEarly contents t early now (arrivals items))
-      (WritesSome t old new (arrivals items) × HearsMost contents t early now (arrivals items))
-      (λ a. a) (λ a. (are-so-far _ _ _ _ _ _ _ a.0.told, a.1)) (λ a. either items a) told)
+      (by-more r (TellsAll contents (t, early) replay old new items)
+      (TellsItems contents (t, early) replay old new items)
+      (TellsItems contents (t, early) replay old new items ⊎ BeginsItems contents (t, early) replay old new items)
+      (ToldAll t replay.counts old new (arrivals items) × hears) (WritesSoFar t old new (arrivals items) × hears)
+      (WritesSome t old new (arrivals items) × HearsMost contents t early replay.early (arrivals items))
+      (λ a. a) (λ a. (are-so-far _ _ _ _ _ _ _ a.told, a.heard)) (λ a. either items a) told)
 
--- the same where the input's bytes are known
-pub replays-known : {D B : Type 0} (contents : D → Option (List ℕ)) (t : Rows) (takes : B → Taking)
-    (early now : Option (Watched D)) (replay : Replay) (old new : Known) (known : Option B)
-    (r : Result InputCount RunFault)
-    → ((bytes : B) (past : List Arrival) (answer : Result InputCount RunFault) → takes bytes past answer
-    → DontGoBack past)
-    → IfSome known (λ bytes. Took (ExplainsAll contents (t, early) replay now old new)
-    (ExplainsItems contents (t, early) replay now old new) (ExplainsSome contents (t, early) now old new)
-    (takes bytes) r)
-    → IfSome known (λ bytes. Replays t (takes bytes) (HearsSo contents t (takes bytes) early now old new) old new
-    (answer_of replay.counts r))
-replays-known contents t takes early now replay old new None r orders h = tt
-replays-known contents t takes early now replay old new (Some bytes) r orders h =
-    replays-told contents t (takes bytes) early now replay old new r (orders bytes) h
+  -- the same where the input's bytes are known
+  pub replays-known : {B : Type 0} (takes : B → Taking) (known : Option B) (r : Result InputCount RunFault)
+      → ((bytes : B) (past : List Arrival) (answer : Result InputCount RunFault) → takes bytes past answer
+      → DontGoBack past)
+      → IfSome known (λ bytes. Took (TellsAll contents (t, early) replay old new)
+      (TellsItems contents (t, early) replay old new) (BeginsItems contents (t, early) replay old new)
+      (takes bytes) r)
+      → IfSome known (λ bytes. Replays t (takes bytes) (HearsSo contents t (takes bytes) early replay.early old new)
+      old new (answer_of replay.counts r))
+  replays-known takes None r orders h = tt
+  replays-known takes (Some bytes) r orders h = replays-told (takes bytes) r (orders bytes) h
+
+  -- of a list that ended with a fault, and of one that was told to its end
+  pub listed-err : (input rest : Known) (fault : RunFault)
+      → IfSome input (λ bytes. ListAnswers frames (thing_of frames listed_frame)
+      (TellsAll contents (t, early) replay old new) (TellsItems contents (t, early) replay old new)
+      (BeginsItems contents (t, early) replay old new) bytes rest (Err fault))
+      → IfSome input (λ bytes. StopsAt (WritesSoFar t old new) (WritesSome t old new) bytes rest fault)
+  listed-err input rest fault h =
+      answers-err frames (thing_of frames listed_frame) (TellsAll contents (t, early) replay old new)
+      (TellsItems contents (t, early) replay old new) (BeginsItems contents (t, early) replay old new)
+      (WritesSoFar t old new) (WritesSome t old new) input rest fault
+      (λ past h. (are-so-far _ _ _ _ _ _ _ h.told, are-some _ _ _ _ _ _ _ h.told)) (λ past h. h.0) h
+
+  pub listed-ok : (input rest : Known) (n : ℕ)
+      → IfSome input (λ bytes. ListAnswers frames (thing_of frames listed_frame)
+      (TellsAll contents (t, early) replay old new) (TellsItems contents (t, early) replay old new)
+      (BeginsItems contents (t, early) replay old new) bytes rest (Ok n))
+      → IfSome input (λ bytes. WritesAll t (lines_of bytes) old new (with_lines replay.counts n))
+  listed-ok input rest n h =
+      told-done t (ToldAll t replay.counts old new) replay.counts (with_lines replay.counts n) n input old new
+      (answers-ok frames (thing_of frames listed_frame) (TellsAll contents (t, early) replay old new)
+      (TellsItems contents (t, early) replay old new) (BeginsItems contents (t, early) replay old new)
+      (ToldAll t replay.counts old new) input rest n (λ past h. h.0) h) (λ past h. h) refl
 
 -- ---- nothing was told yet
 
-pub hears-start : {D : Type 0} (contents : D → Option (List ℕ)) (t : Rows) (early : Option (Watched D))
-    → HearsEarly contents t early early []
-hears-start contents t None = tt
-hears-start contents t (Some drops) = early-start contents t drops
+-- whoever is told of frames that came too early
+pub told-anew : {D : Type 0} (contents : D → Option (List ℕ)) (t : Rows) (replay : Replay D)
+    (early : Option (Watched D)) (output : Known)
+    → TellsItems contents (t, replay.early) replay output output []
+    → TellsItems contents (t, early) (record replay { early = early }) output output []
+told-anew contents t replay early output h = record {
+  told = h.told;
+  heard = hears-start contents (AreEarlyLines t []) early refl;
+  early = h.early;
+  clock = h.clock;
+  few = h.few;
+  room = h.room;
+}
 
 pub replays-none : {D : Type 0} (contents : D → Option (List ℕ)) (t : Rows) (takes : Taking)
     (early : Option (Watched D)) (output : Known) → takes [] (Err run.Memory)
     → Replays t takes (HearsSo contents t takes early early output output) output output (Err run.Memory)
 replays-none contents t takes early output taken =
-    replays-by contents t takes early early output output [] (Err run.Memory) (counts_of t []) taken tt
-    (([], replay_text t (events_of t []), refl, Appends-nil output), inl (hears-start contents t early))
+    replays-by contents t takes early early output output [] (Err run.Memory) (counts_of t []) taken tt (
+      ([], replay_text t (events_of t []), refl, Appends-nil output),
+      inl (hears-start contents (AreEarlyLines t []) early refl),
+    )
 
 -- ---- a command ends as its run answered
 

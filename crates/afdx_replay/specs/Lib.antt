@@ -1,4 +1,5 @@
 pub mod cascading
+pub mod Early
 pub mod Inputs
 pub mod Placed
 pub mod Listing

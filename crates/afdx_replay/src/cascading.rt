@@ -1,7 +1,6 @@
 //! Replaying a list by a configuration of several switches a side.
 
 pub mod admitted;
-mod early;
 pub mod over;
 mod run;
 mod sites;

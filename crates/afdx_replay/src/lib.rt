@@ -4,6 +4,7 @@
 #![tactic(auto)]
 
 mod cascading;
+mod early;
 mod input_ending;
 pub mod laws;
 mod listing;
@@ -29,5 +30,5 @@ pub use policing::input_command::police_input;
 pub use policing::run::run_police;
 pub use replaying::admitted::run;
 pub use replaying::command::replay;
-pub use replaying::input_command::replay_input;
+pub use replaying::input_command::{ReplaySettings, replay_input};
 pub use replaying::run::run_unadmitted;

@@ -4,8 +4,6 @@ use Rattle.afdx_command_tables.specs.Checking.{IsAdmittedFile, IsRead}
 use Rattle.afdx_command_tables.specs.Commands.{EndsAs}
 use Rattle.afdx_command_tables.specs.declared.ending.Ended.{Ended}
 use Rattle.afdx_command_tables.specs.declared.summary.Summary.{Summary}
-use Rattle.afdx_config.specs.Rows.{Rows}
-use Rattle.afdx_config.specs.Switches.{NamedRows}
 use Rattle.afdx_config.specs.declared.describing.Described.{Described}
 use Rattle.afdx_config.specs.declared.describing.Described.TheVariants.{One, Several}
 use Rattle.afdx_input_lines.specs.Watching.{device_of}
@@ -15,25 +13,19 @@ use Rattle.afdx_replay.specs.cascading.Ran as cascade
 use Rattle.afdx_replay.specs.replaying.PromisedRun.{PromisedAnswers}
 use Rattle.afdx_replay.specs.replaying.Replayed.{Answers}
 
--- this is so of the one switch of each side that a file describes, or this of the several
-abbrev pub OfOneOr : (one : Rows → Type 0) → (several : List NamedRows → Type 0)
-    → Described → Type 0
-OfOneOr one several (One t) = one t
-OfOneOr one several (Several switches) = several switches
-
 -- what is answered and written for a list of these bytes
 abbrev pub FileAnswers : Described → List ℕ → (rest old new : Option (List ℕ)) →
     Result Summary RunFault → Type 0
-FileAnswers d bytes rest old new answer =
-    OfOneOr (λ t. Answers t bytes rest old new answer)
-    (λ switches. cascade.Answers switches bytes rest old new answer) d
+FileAnswers (One t) bytes rest old new answer = Answers t bytes rest old new answer
+FileAnswers (Several switches) bytes rest old new answer =
+    cascade.Answers switches bytes rest old new answer
 
 -- of one switch on a side that is admitted it is as promised; what is promised of several is
 -- in their answers
 abbrev pub FilePromises : Described → List ℕ → (rest old new : Option (List ℕ)) →
     Result Summary RunFault → Type 0
-FilePromises d bytes rest old new answer =
-    OfOneOr (λ t. PromisedAnswers t bytes rest old new answer) (λ switches. Unit {0}) d
+FilePromises (One t) bytes rest old new answer = PromisedAnswers t bytes rest old new answer
+FilePromises (Several switches) bytes rest old new answer = Unit {0}
 
 -- A list is replayed by what the configuration describes, which is admitted if that is asked for.
 -- Where the list's bytes are known, what is written is what goes with this answer; and if admission

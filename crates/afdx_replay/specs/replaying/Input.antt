@@ -6,6 +6,7 @@ use Rattle.afdx_config.specs.Lawful.{IsLawfulSwitch}
 use Rattle.afdx_config.specs.Rows.{Rows}
 use Rattle.afdx_config.specs.Switches.{NamedRows}
 use Rattle.afdx_config.specs.declared.describing.Described.{Described}
+use Rattle.afdx_config.specs.declared.describing.Described.TheVariants.{One, Several}
 use Rattle.afdx_command_tables.specs.Checking.{IsAdmittedFile, IsRead}
 use Rattle.afdx_police.specs.Arrival.{Arrival}
 use Rattle.afdx_input_lines.specs.declared.fault.RunFault.{RunFault}
@@ -19,13 +20,13 @@ use Rattle.afdx_replay.specs.Inputs.{answer_of, EndsInputAs}
 use Rattle.afdx_replay.specs.Placed.{ArePlacedIn, IsNotRun}
 use Rattle.afdx_replay.specs.cascading.Input.{Answering}
 use Rattle.afdx_replay.specs.cascading.Input as cascade
-use Rattle.afdx_replay.specs.replaying.Command.{OfOneOr}
 use Rattle.afdx_replay.specs.replaying.Early.{HearsEarly, HearsMost}
 use Rattle.afdx_replay.specs.replaying.PromisedRun.{IsAsPromised, WritesPromisedSoFar, WritesPromisedSome}
 use Rattle.afdx_replay.specs.replaying.Replayed.{Known, WritesSoFar, WritesSome}
 use Rattle.afdx_replay.specs.replaying.Text.{replay_text, replay_counts}
 use Rattle.afdx_replay.specs.declared.input_ending.InputEnded.{InputEnded}
 use Rattle.afdx_replay.specs.declared.input_ending.InputSummary.{InputSummary}
+use Rattle.afdx_replay.specs.declared.replaying.input_command.ReplaySettings.{ReplaySettings}
 
 -- with this answer a run has taken these arrivals
 abbrev pub Taking : Type 1
@@ -70,6 +71,11 @@ pub record Replays (t : Rows) (takes hears : Taking) (old new : Known)
   pub promised : IsLawfulSwitch t → IsAdmitted t → WritesPromised t past count old new
   pub heard : hears past count
 
+-- of several switches, what such options say is there
+abbrev pub IsThere : {P : Type 0} → (there : List NamedRows → P → Type 0) → P → Described → Type 0
+IsThere there options (One t) = Unit {0}
+IsThere there options (Several switches) = there switches options
+
 -- what a replay does, by what a configuration describes, over an input of some kind: how its bytes
 -- are known, what of these a run over one switch a side takes, and what one over several is handed
 module _ {P I B D : Type 0} (known : I → Option B) (takes : P → Ports → B → I → Taking)
@@ -79,13 +85,12 @@ module _ {P I B D : Type 0} (known : I → Option B) (takes : P → Ports → B 
   -- an output that held `old` and holds `new`, and a device `start` that is handed back as `early`
   abbrev pub ReplaysBy : P → (first last : I) → (start early : Option (Watched D)) →
       (old new : Known) → Result InputSummary RunFault → Described → Type 0
-  ReplaysBy options first last start early old new answer described =
-      OfOneOr
-      (λ t. IfSome (known first) (λ bytes. Replays t (takes options (ports_of_one t) bytes last)
-      (λ past count. Hears t past count contents start early) old new answer))
-      (λ switches. cascade.Replays contents switches (answers options switches first last)
-      start early old new answer)
-      described
+  ReplaysBy options first last start early old new answer (One t) =
+      IfSome (known first) (λ bytes. Replays t (takes options (ports_of_one t) bytes last)
+      (λ past count. Hears t past count contents start early) old new answer)
+  ReplaysBy options first last start early old new answer (Several switches) =
+      cascade.Replays contents switches (answers options switches first last)
+      start early old new answer
 
 -- a run by what the configuration describes, which is admitted if that is asked for
 pub record RunsIn (config : List ℕ) (admission : Bool) (so : Described → Type 0) : Type 0 where
@@ -96,17 +101,20 @@ pub record RunsIn (config : List ℕ) (admission : Bool) (so : Described → Typ
 
 -- The command ends as its run answered: `so` is true of the answer, by the options with their
 -- places in what the configuration describes, which is admitted if that is asked for. Or it isn't
--- run, the error output is told why, and what it was given is `untouched`.
-abbrev pub EndsInput : {P E : Type 0} → (Placed : Described → P → P → Type 0) →
+-- run, the error output is told why, the device is handed back as it was, and what else it was
+-- given is `untouched`.
+abbrev pub EndsInput : {P D E : Type 0} → (Placed : Described → P → P → Type 0) →
     (Misplaced : Described → P → Type 0) → (error_bytes : E → Option (List ℕ)) →
-    (config : List ℕ) → (admission : Bool) → (options : P) → (old_errors new_errors : Watched E) →
-    (all_read : Type 0) → (input_failed output_failed : Bool) → InputEnded →
+    ReplaySettings P D → (old_errors new_errors : Watched E) →
+    (all_read : Type 0) → (input_failed output_failed : Bool) → InputEnded × Option (Watched D) →
     (so : P → Result InputSummary RunFault → Described → Type 0) → (untouched : Type 0) → Type 0
-EndsInput Placed Misplaced error_bytes config admission options old_errors new_errors all_read
-    input_failed output_failed ended so untouched =
+EndsInput Placed Misplaced error_bytes asked old_errors new_errors all_read input_failed
+    output_failed ended so untouched =
     ((answer : Result InputSummary RunFault)
-    × EndsInputAs error_bytes all_read input_failed output_failed old_errors new_errors ended answer
-    × RunsIn config admission
-    (λ d. ArePlacedIn Placed options d (λ placed. so placed answer d)))
-    ⊎ (IsNotRun Placed options Misplaced error_bytes old_errors new_errors config admission
-    ended.ended.status × (ended.tally ≡ None) × untouched)
+    × EndsInputAs error_bytes all_read input_failed output_failed old_errors new_errors ended.0
+    answer
+    × RunsIn asked.config.now asked.admission
+    (λ d. ArePlacedIn Placed asked.options d (λ placed. so placed answer d)))
+    ⊎ (IsNotRun Placed asked.options Misplaced error_bytes old_errors new_errors asked.config.now
+    asked.admission ended.0.ended.status × (ended.0.tally ≡ None) × (ended.1 ≡ asked.early)
+    × untouched)

@@ -112,17 +112,14 @@ pub record HasRoom (counts : Summary) (held n : ℕ) : Type 0 where
 
 -- ---- the same words of what a replay works with
 
-abbrev pub Tells : Rows → Replay → Known → Known → List Event → Type 0
-Tells t replay old new events =
-    HasTold t replay.network replay.systems replay.counts old new events
+module _ {D : Type 0} where
+  abbrev pub Tells : Rows → Replay D → Known → Known → List Event → Type 0
+  Tells t replay old new events =
+      HasTold t replay.network replay.systems replay.counts old new events
 
-abbrev pub TellsMore : Rows → Replay → Known → Known → List Event → Type 0
-TellsMore t replay old new events =
-    ToldMore t replay.network replay.systems replay.counts old new events
+  abbrev pub TellsMore : Rows → Replay D → Known → Known → List Event → Type 0
+  TellsMore t replay old new events =
+      ToldMore t replay.network replay.systems replay.counts old new events
 
-abbrev pub TellsArrivals : Rows → Replay → Known → Known → List Arrival → Type 0
-TellsArrivals t replay old new past =
-    AreTold t replay.network replay.systems replay.counts old new past
-
-abbrev pub HasRoomFor : Replay → ℕ → Type 0
-HasRoomFor replay n = HasRoom replay.counts (network.frames_held replay.network) n
+  abbrev pub HasRoomFor : Replay D → ℕ → Type 0
+  HasRoomFor replay n = HasRoom replay.counts (network.frames_held replay.network) n

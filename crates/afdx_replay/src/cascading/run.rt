@@ -17,7 +17,7 @@ ghost use Rattle.afdx_replay.specs.cascading.Ran.{TellerToldAll, TellerToldSome}
 ghost use Rattle.afdx_replay.specs.cascading.Told.{AreFirst, AreInTime, AreSteady, BringsLine, HasTold, ToldUntil};
 
 use crate::cascading::teller::Teller;
-use crate::replaying::explained::is_over_rate;
+use crate::early::is_over_rate;
 use crate::replaying::lines::reason_of;
 use afdx_cascade::{Brought, Cascade};
 use afdx_config::Switches;

@@ -23,8 +23,7 @@ ghost use Rattle.afdx_input_runs.specs.ListText.{switch_name};
 ghost use Rattle.afdx_replay.specs.cascading.Told as spec;
 ghost use Rattle.afdx_replay.specs.cascading.Told.{AreSteady, SystemsAre, TellsOne, place_of};
 
-use crate::cascading::early::tell_early;
-use crate::replaying::explained::is_over_rate;
+use crate::early::{is_over_rate, tell_early};
 use crate::replaying::telling::{tell_departure, tell_verdict};
 use afdx_cascade::{Brought, Happened, Sent, Turned};
 use afdx_command_tables::{NO_COUNTS, Summary};
@@ -199,7 +198,7 @@ impl<'a, D: Write> Teller<'a, D> {
         let reason = tell_verdict(&mut self.counts, n, site, &brought.verdict, output)?;
         if let Some(drops) = &mut self.early {
             if is_over_rate(reason) {
-                tell_early(drops, n, site, brought.early);
+                tell_early(drops, n, Some(site), brought.early);
             }
         }
         Ok(())

@@ -4,8 +4,7 @@ ghost use Rattle.std.specs.Prelude.{◌≡◌, ◌||◌, ◌↔◌, IsSome, OnOk
 ghost use Rattle.afdx_replay.specs.Placed.{IsPlacedStatus};
 ghost use Rattle.afdx_command_tables.specs.Taking.{described_of};
 ghost use Rattle.afdx_input_lines.specs.Calls.{is_failed_read, is_failed_write};
-ghost use Rattle.afdx_replay.specs.replaying.Command.{OfOneOr};
-ghost use Rattle.afdx_replay.specs.replaying.Input.{EndsInput, ReplaysBy};
+ghost use Rattle.afdx_replay.specs.replaying.Input.{EndsInput, IsThere, ReplaysBy};
 
 use crate::cascading::over::{SitedInput, replay_sited};
 use crate::input_ending::{InputEnded, InputSummary, end_input};
@@ -18,6 +17,18 @@ use afdx_text::Sink;
 use std::alloc::Global;
 use std::io::Write;
 
+/// What a replay of an input is given beside it.
+pub struct ReplaySettings<'a, P, D> {
+    /// The text of the configuration.
+    pub config: &'a [u8],
+    /// Whether what it describes has to be admitted.
+    pub admission: bool,
+    /// The options of recordings.
+    pub options: P,
+    /// The device that is told by how much frames came too early, if there is one.
+    pub early: Option<Watched<D>>,
+}
+
 /// Replays an input by what was taken of a configuration, and tells `early`.
 fn replay_taken<P: Placing + Drop, A: SitedInput<P>, O: Sink, D: Write + Drop>(
     alloc: Global,
@@ -28,8 +39,7 @@ fn replay_taken<P: Placing + Drop, A: SitedInput<P>, O: Sink, D: Write + Drop>(
     early: Option<Watched<D>>,
 ) -> (Result<InputSummary, RunFault>, Option<Watched<D>>)
     requires new { A.IsNew input.old }
-    requires there { OfOneOr (λ t. Unit {0}) (λ switches. A.AreThere switches options)
-        (described_of taken.now) }
+    requires there { IsThere A.AreThere options (described_of taken.now) }
     requires sound_output { O.failed output.old ≡ false }
     ensures ended { OnOk result.0 (A.ended input.new) }
     ensures read { A.failed input.new ≡ is_failed_read result.0 }
@@ -73,13 +83,10 @@ fn replay_taken<P: Placing + Drop, A: SitedInput<P>, O: Sink, D: Write + Drop>(
 /// place, admission.
 pub fn replay_input<P: Placing + Drop, A: SitedInput<P>, O: Sink, E: Write, D: Write + Drop>(
     alloc: Global,
-    admission: bool,
-    mut options: P,
-    config: &[u8],
+    settings: ReplaySettings<'_, P, D>,
     input: &mut A,
     output: &mut O,
     errors: &mut Watched<E>,
-    early: Option<Watched<D>>,
 ) -> (InputEnded, Option<Watched<D>>)
     requires new { A.IsNew input.old }
     requires sound_output { O.failed output.old ≡ false }
@@ -91,19 +98,26 @@ pub fn replay_input<P: Placing + Drop, A: SitedInput<P>, O: Sink, E: Write, D: W
         A.ended input.new × (A.failed input.new ≡ false) × (O.failed output.new ≡ false) }
     ensures device { (A.failed input.new || O.failed output.new) ≡ true →
         result.0.ended.status ≡ 4 }
-    ensures calls { A.IsAskedFew options input.old input.new }
+    ensures calls { A.IsAskedFew settings.entry.options input.old input.new }
 
     // The command ends as a run over the input answered, by the options with their places in the
     // configuration, or nothing is read, nothing is written and nothing is told `early`.
-    ensures replays { EndsInput P.ArePlaced P.AreNotPlaced E.contents config.now admission options
-        errors.old errors.new (A.ended input.new) (A.failed input.new) (O.failed output.new)
-        result.0 (λ placed. ReplaysBy A.known A.Takes A.Answers D.contents placed input.old
-        input.new early result.1 (O.written output.old) (O.written output.new))
-        ((input.new ≡ input.old) × (output.new ≡ output.old) × (result.1 ≡ early)) }
+    ensures replays { let asked = settings.entry in
+        EndsInput P.ArePlaced P.AreNotPlaced E.contents asked errors.old errors.new
+        (A.ended input.new) (A.failed input.new) (O.failed output.new) result
+        (λ placed. ReplaysBy A.known A.Takes A.Answers D.contents placed input.old input.new
+        asked.early result.1 (O.written output.old) (O.written output.new))
+        ((input.new ≡ input.old) × (output.new ≡ output.old)) }
 {
     // (laws of the input: before it is asked for anything it hasn't failed; what its options place)
     A::starts();
     A::places();
+    let ReplaySettings {
+        config,
+        admission,
+        mut options,
+        early,
+    } = settings;
     let described = match read_placed(alloc, config, &mut options, errors) {
         Ok(described) => described,
         Err(status) => return (InputEnded::without_counts(status), early),

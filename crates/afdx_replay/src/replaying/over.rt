@@ -6,7 +6,6 @@ ghost use Rattle.afdx_input_sources.specs.Claims.{ports_of_one};
 ghost use Rattle.afdx_replay.specs.replaying.Input.{Hears, Replays};
 
 use crate::input_ending::InputSummary;
-use crate::replaying::explained::Explaining;
 use crate::replaying::run::Replay;
 use afdx_config::Tables;
 use afdx_input_lines::{RunFault, Watched};
@@ -43,16 +42,16 @@ pub(crate) fn replay_over<P: Drop, A: Arrivals<P>, O: Sink, D: Write + Drop>(
     // (laws of the input: where memory is refused at once nothing is taken; times don't go back)
     A::starts();
     A::orders();
-    let replay = match Replay::new(alloc, tables) {
+    let mut replay = match Replay::new(alloc, tables) {
         Ok(replay) => replay,
         Err(error) => return (Err(RunFault::from(error)), early),
     };
-    let mut explaining = Explaining { replay, early };
+    replay.early = early;
     let unsaid = UnsaidPort::OfSender(tables);
-    let count = input.tell_all(alloc, options, unsaid, &mut explaining, output);
-    let Explaining { replay, early } = explaining;
+    let count = input.tell_all(alloc, options, unsaid, &mut replay, output);
+    let (counts, early) = (replay.counts, replay.early.take());
     match count {
-        Ok(count) => (Ok(InputSummary::of(replay.counts, count)), early),
+        Ok(count) => (Ok(InputSummary::of(counts, count)), early),
         Err(fault) => (Err(fault), early),
     }
 }

@@ -1,28 +1,25 @@
-//! A run that replays a list through the switches of both sides and the systems behind them.
+//! A run that replays a list through the switches of both sides and the systems behind them, and
+//! tells by how much frames came too early.
 
-ghost use Rattle.std.specs.Prelude.{◌≡◌, ℕ, ◌+◌, ◌-◌, ◌≤◌, ◌<◌, ◌⊎◌, ◌∷◌, [], List, Option, OnOk, OnErr, IfOk, IfErr, IfSome, true, false};
+ghost use Rattle.std.specs.Prelude.{◌≡◌, ℕ, ◌+◌, ◌-◌, ◌≤◌, [], List, Option, OnOk, OnErr, IfOk, IfErr, IfSome, true, false};
 ghost use Rattle.afdx_port.specs.Times.{drain_end};
 ghost use Rattle.afdx_frame.specs.Ports.{last_port};
-ghost use Rattle.afdx_frame.specs.Seals.{IsSealedAs};
-ghost use Rattle.afdx_frame.specs.Times.{latest_listed};
 ghost use Rattle.afdx_input_lines.specs.Lines.{most_reads};
 ghost use Rattle.afdx_input_sources.specs.Items.{most_frames};
 ghost use Rattle.afdx_config.specs.Lawful.{IsLawfulSwitch};
 ghost use Rattle.afdx_config.specs.Rows.{Rows};
-ghost use Rattle.afdx_police.specs.Arrival.{Arrival};
+ghost use Rattle.afdx_input_lines.specs.declared.watched.Watched.{Watched as Device};
 ghost use Rattle.afdx_input_lines.specs.Calls.{AppendsFront, is_failed_read, is_failed_write};
 ghost use Rattle.afdx_end_systems.specs.StandsFor as systems;
 ghost use Rattle.afdx_network.specs.Events.{Event, Departure, Left, arrivals_in};
 ghost use Rattle.afdx_network.specs.Network as network;
-ghost use Rattle.afdx_input_lines.specs.FrameLines.{listed_frame};
 ghost use Rattle.afdx_input_lines.specs.Watching.{calls_of, device_of, has_ended, has_failed};
 ghost use Rattle.afdx_replay.specs.replaying.DefinedRun.{DefinedAnswers};
-ghost use Rattle.afdx_input_sources.specs.Listed.{arrival_at};
 ghost use Rattle.afdx_replay.specs.replaying.Replayed.{WritesSome, Answers, ToldAll, TellsDeparture, HasRoom};
 ghost use Rattle.afdx_text.specs.Sinks.{IsOfOutput};
-ghost use Rattle.afdx_switch.specs.Verdicts.{reason_of as reason_after};
 ghost use Rattle.afdx_replay.specs.replaying.Text.{replay_counts, frames_left, lines_after, with_admission};
 
+use crate::replaying::explained::explain;
 use crate::replaying::telling::{tell_departure, tell_verdict};
 use afdx_command_tables::{NO_COUNTS, Summary};
 use afdx_config::Tables;
@@ -30,37 +27,39 @@ use afdx_end_systems::Systems;
 use afdx_input_lines::{Heading, RunFault, Watched};
 use afdx_input_sources::{FrameLines, Machine, run_list};
 use afdx_network::Network;
-use afdx_police::Reason;
 use afdx_text::{AtOnce, Sink, Site, Text};
 use std::alloc::{AllocError, Global};
-use std::io::{Read, Write};
+use std::io::{Read, Stderr, Write};
 
-/// What a replay works with.
-pub(crate) struct Replay {
-    pub(crate) network: Network,
+/// What a replay works with, and the device that is told by how much frames came too early, if
+/// there is one.
+pub(crate) struct Replay<D> {
+    network: Network,
     systems: Systems,
     pub(crate) counts: Summary,
+    pub(crate) early: Option<Watched<D>>,
 }
 
-impl Drop for Replay {
+impl<D: Drop> Drop for Replay<D> {
     // (written out, it is one call wherever a value is let go)
     fn drop(self) {
         let Self {
             network,
             systems,
             counts,
+            early,
         } = self;
     }
 }
 
-impl Replay {
-    ghost use Rattle.afdx_replay.specs.replaying.Replayed.{Tells, TellsMore, TellsArrivals, HasRoomFor};
+impl<D: Write> Replay<D> {
+    ghost use Rattle.afdx_replay.specs.replaying.Replayed.{Tells, TellsMore, HasRoomFor};
     ghost use Rattle.afdx_replay.specs.replaying.Told.{TellsItems};
 
-    /// It has told nothing yet.
-    pub(crate) fn new(alloc: Global, tables: &Tables) -> Result<Replay, AllocError>
-        ensures { (output : Option (List ℕ)) →
-            IfOk result (λ replay. TellsItems tables.now replay output output []) }
+    /// It has told nothing yet, and tells nobody of frames that came too early.
+    pub(crate) fn new(alloc: Global, tables: &Tables) -> Result<Replay<D>, AllocError>
+        ensures { (output : Option (List ℕ)) → IfOk result (λ replay.
+            TellsItems D.contents (tables.now, replay.early) replay output output []) }
     {
         let network = Network::new(alloc, tables)?;
         let systems = Systems::new(alloc, tables)?;
@@ -68,6 +67,7 @@ impl Replay {
             network,
             systems,
             counts: NO_COUNTS,
+            early: None,
         })
     }
 
@@ -83,6 +83,7 @@ impl Replay {
         ensures failed { O.failed output.new ≡ is_failed_write result }
         ensures fault { IfErr result IsOfOutput }
         ensures settings { O.settings output.new ≡ O.settings output.old }
+        ensures early { self.new.early ≡ self.old.early }
         ensures clock { network.IsUntil self.new.network until }
         ensures quiet { OnOk result (network.IsQuiet self.new.network until) }
         ensures room { (n : ℕ) → HasRoomFor self.old n → OnOk result (HasRoomFor self.new n) }
@@ -101,65 +102,24 @@ impl Replay {
     {
         while let Some(departed) = self.network.take(until) {
             let (systems, counts) = (&mut self.systems, &mut self.counts);
-            tell_departure::<Replay, O>(systems, counts, "", &departed, output)?;
+            tell_departure::<Replay<D>, O>(systems, counts, "", &departed, output)?;
         }
         Ok(())
     }
-
-    /// Tells what leaves before an arrival, and then what became of it. Answers why it was dropped,
-    /// if it was.
-    pub(crate) fn tell_arrival<O: Sink>(
-        &mut self,
-        n: u64,
-        heading: &Heading,
-        message: &[u8],
-        output: &mut O,
-    ) -> Result<Option<Reason>, RunFault>
-        requires limit { heading.now.time ≤ latest_listed }
-        requires known { IsSealedAs heading.now.seal message.now }
-        requires clock { network.IsUntil self.old.network heading.now.time }
-        requires room { (m : ℕ) × (m < most_frames) × HasRoomFor self.old m }
-        requires sound { O.failed output.old ≡ false }
-        ensures failed { O.failed output.new ≡ is_failed_write result }
-        ensures fault { IfErr result IsOfOutput }
-        ensures settings { O.settings output.new ≡ O.settings output.old }
-        ensures clock { OnOk result (network.IsUntil self.new.network heading.now.time) }
-        ensures room { (m : ℕ) → HasRoomFor self.old m → OnOk result (HasRoomFor self.new (m + 1)) }
-        ensures told { (t : Rows) (start : Option (List ℕ)) (past : List Arrival) →
-            TellsArrivals t self.old start (O.written output.old) past →
-            OnOk result (TellsArrivals t self.new start (O.written output.new)
-            (arrival_at n (listed_frame heading.now message.now) ∷ past)) }
-        ensures some { (t : Rows) (start : Option (List ℕ)) (past : List Arrival) →
-            TellsArrivals t self.old start (O.written output.old) past →
-            OnErr result (WritesSome t start (O.written output.new) past
-            ⊎ WritesSome t start (O.written output.new)
-            (arrival_at n (listed_frame heading.now message.now) ∷ past)) }
-        ensures reason { (t : Rows) (start : Option (List ℕ)) (past : List Arrival) →
-            TellsArrivals t self.old start (O.written output.old) past →
-            IfOk result (λ reason. reason ≡ reason_after t past
-            (arrival_at n (listed_frame heading.now message.now))) }
-    {
-        self.tell_departures(heading.time, output)?;
-        let (side, time, port) = (heading.side, heading.time, heading.port);
-        let frame = heading.frame(message);
-        let verdict = self.network.arrive(side, time, port, n, frame)?;
-        let reason = tell_verdict(&mut self.counts, n, Site::on(side), &verdict, output)?;
-        Ok(reason)
-    }
 }
 
-impl Machine<Heading> for Replay {
+impl<D: Write> Machine<Heading> for Replay<D> {
     ghost use Rattle.afdx_replay.specs.replaying.Told.{TellsItems, BeginsItems, TellsAll};
 
-    ghost Rules = { Rows };
+    ghost Rules = { Rows × Option (Device D) };
 
     ghost Can = { λ rules item. Unit {0} };
 
-    ghost Told = { TellsItems };
+    ghost Told = { TellsItems D.contents };
 
-    ghost Begins = { λ rules replay old new past. BeginsItems rules old new past };
+    ghost Begins = { BeginsItems D.contents };
 
-    ghost Done = { TellsAll };
+    ghost Done = { TellsAll D.contents };
 
     fn tell<O: Sink>(
         &mut self,
@@ -168,7 +128,12 @@ impl Machine<Heading> for Replay {
         message: &[u8],
         output: &mut O,
     ) -> Result<(), RunFault> {
-        self.tell_arrival(n, heading, message, output)?;
+        self.tell_departures(heading.time, output)?;
+        let (side, time, port) = (heading.side, heading.time, heading.port);
+        let frame = heading.frame(message);
+        let verdict = self.network.arrive(side, time, port, n, frame)?;
+        let reason = tell_verdict(&mut self.counts, n, Site::on(side), &verdict, output)?;
+        explain(&mut self.early, &self.network, n, heading, message, reason);
         Ok(())
     }
 
@@ -215,7 +180,8 @@ pub fn run_unadmitted<R: Read, W: Write>(
 {
     let mut text = Text::new(alloc);
     let mut output = AtOnce::new(output, &mut text);
-    let mut replay = Replay::new(alloc, tables)?;
+    // (there is no device that is told of frames that came too early: any kind serves)
+    let mut replay: Replay<Stderr> = Replay::new(alloc, tables)?;
     let lines = run_list(alloc, FrameLines, &mut replay, input, &mut output)?;
     let mut summary = replay.counts;
     summary.lines = lines;

@@ -6,19 +6,20 @@ use Rattle.afdx_replay.proofs.replaying.input_command.replay_input.Goals as goal
 
 -- the configuration has a fault, or not a place of the options
 pub returns-in-Err-clause-calls : goal.returns-in-Err-clause-calls
-returns-in-Err-clause-calls g c = c.starts.ensures.asked c.args.options c.args.input.now c.requires.new
+returns-in-Err-clause-calls g c = c.starts.ensures.asked c.args.settings.options c.args.input.now c.requires.new
 
 pub returns-in-Err-clause-replays : goal.returns-in-Err-clause-replays
 returns-in-Err-clause-replays g c = inr (
   inl (rw c.without_counts.ensures.status c.in-Err.ensures.refused),
   c.without_counts.ensures.tally,
-  (refl, refl, refl),
+  refl,
+  (refl, refl),
 )
 
 -- or what it describes is not admitted
 pub returns-in-Err-take_described-clause-calls : goal.returns-in-Err-take_described-clause-calls
 returns-in-Err-take_described-clause-calls g c =
-    c.starts.ensures.asked c.args.options c.args.input.now c.requires.new
+    c.starts.ensures.asked c.args.settings.options c.args.input.now c.requires.new
 
 pub returns-in-Err-take_described-clause-replays : goal.returns-in-Err-take_described-clause-replays
 returns-in-Err-take_described-clause-replays g c =
@@ -34,20 +35,22 @@ returns-in-Err-take_described-clause-replays g c =
         },
       ),
       c.without_counts-in-Err-take_described.ensures.tally,
-      (refl, refl, refl),
+      refl,
+      (refl, refl),
     )
 
 pub replay_taken-answer-requires-clause-there : goal.replay_taken-answer-requires-clause-there
 replay_taken-answer-requires-clause-there g c =
     let placed = c.read_placed.new.options in
-    are-there (λ ss. g.A.SitedInput.AreThere ss placed) (λ d. g.P.Placing.ArePlaced d c.args.options placed)
+    are-there (λ ss options. g.A.SitedInput.AreThere ss options) placed
+    (λ d. g.P.Placing.ArePlaced d c.args.settings.options placed)
     c.in-Ok.described (described_of c.in-Ok-take_described.taken) c.in-Ok-take_described.ensures.same
-    c.in-Ok.ensures.read.lawful (λ ss are is. c.places.ensures.there ss c.args.options placed are is)
+    c.in-Ok.ensures.read.lawful (λ ss are is. c.places.ensures.there ss c.args.settings.options placed are is)
     c.in-Ok.ensures.placed
 
 pub returns-clause-calls : goal.returns-clause-calls
 returns-clause-calls g c =
-    c.places.ensures.calls c.in-Ok.described c.args.options c.read_placed.new.options c.args.input.now
+    c.places.ensures.calls c.in-Ok.described c.args.settings.options c.read_placed.new.options c.args.input.now
     c.replay_taken-answer.new.input c.in-Ok.ensures.placed c.replay_taken-answer.ensures.calls
 
 pub returns-clause-replays : goal.returns-clause-replays

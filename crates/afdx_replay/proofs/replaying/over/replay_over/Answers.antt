@@ -3,7 +3,7 @@ use Rattle.afdx_input_lines.specs.declared.fault.RunFault.TheVariants as run
 use Rattle.afdx_input_sources.specs.Claims.{ports_of_one}
 use Rattle.afdx_input_runs.proofs.ArrivalsLemmas.{if-known}
 use Rattle.afdx_replay.specs.replaying.Input.{Replays}
-use Rattle.afdx_replay.proofs.ReplaysLemmas.{HearsSo, hears-start, replays-known, replays-none}
+use Rattle.afdx_replay.proofs.ReplaysLemmas.{HearsSo, replays-known, replays-none, told-anew}
 use Rattle.afdx_replay.proofs.replaying.over.replay_over.Goals as goal
 
 -- there was no memory
@@ -21,9 +21,10 @@ returns-in-Err-clause-replays g c =
 
 pub tell_all-count-requires-clause-told : goal.tell_all-count-requires-clause-told
 tell_all-count-requires-clause-told g c =
-    let t = c.args.tables.now in (
+    let t = c.args.tables.now in
+    let old = g.O.Sink.written c.args.output.now in (
       (t, c.args.early),
-      (c.in-Ok.ensures (g.O.Sink.written c.args.output.now), hears-start g.D.Write.contents t c.args.early),
+      told-anew g.D.Write.contents t c.in-Ok.replay c.args.early old (c.in-Ok.ensures old),
       λ item. tt,
     )
 
@@ -35,12 +36,12 @@ returns-in-Ok-count-clause-replays g c =
     let ended = c.tell_all-count.new in
     let takes = λ (bytes : g.A.Arrivals.Bytes). g.A.Arrivals.Takes c.args.options (ports_of_one t)
     bytes ended.self in
-    rw c.of.ensures (replays-known g.D.Write.contents t takes c.args.early ended.machine.early ended.machine.replay
-    old (g.O.Sink.written ended.output) (g.A.Arrivals.known c.args.input.now) (Ok c.in-Ok-count.count)
+    rw (c.of.ensures, c.take-early.ensures.value) (replays-known g.D.Write.contents t c.args.early ended.machine old
+    (g.O.Sink.written ended.output) takes (g.A.Arrivals.known c.args.input.now) (Ok c.in-Ok-count.count)
     (λ bytes past answer took. c.orders.ensures c.args.options (ports_of_one t) bytes ended.self past
     answer took)
     (c.in-Ok-count.ensures.answer (t, c.args.early)
-    (c.in-Ok.ensures old, hears-start g.D.Write.contents t c.args.early) (λ item. tt)))
+    (told-anew g.D.Write.contents t c.in-Ok.replay c.args.early old (c.in-Ok.ensures old)) (λ item. tt)))
 
 -- it ended with a fault
 pub returns-clause-replays : goal.returns-clause-replays
@@ -50,9 +51,9 @@ returns-clause-replays g c =
     let ended = c.tell_all-count.new in
     let takes = λ (bytes : g.A.Arrivals.Bytes). g.A.Arrivals.Takes c.args.options (ports_of_one t)
     bytes ended.self in
-    replays-known g.D.Write.contents t takes c.args.early ended.machine.early ended.machine.replay
-    old (g.O.Sink.written ended.output) (g.A.Arrivals.known c.args.input.now) (Err c.in-Err-count.fault)
+    rw c.take-early.ensures.value (replays-known g.D.Write.contents t c.args.early ended.machine old
+    (g.O.Sink.written ended.output) takes (g.A.Arrivals.known c.args.input.now) (Err c.in-Err-count.fault)
     (λ bytes past answer took. c.orders.ensures c.args.options (ports_of_one t) bytes ended.self past
     answer took)
     (c.in-Err-count.ensures.answer (t, c.args.early)
-    (c.in-Ok.ensures old, hears-start g.D.Write.contents t c.args.early) (λ item. tt))
+    (told-anew g.D.Write.contents t c.in-Ok.replay c.args.early old (c.in-Ok.ensures old)) (λ item. tt)))

@@ -1,8 +1,9 @@
-use Rattle.std.proofs.Common.{◌∙◌, sym, subst}
-use Rattle.afdx_replay.specs.cascading.Early.{HearsEarly}
+use Rattle.std.proofs.Common.{◌∙◌, ◌∷◌, Some, sym, subst}
+use Rattle.afdx_replay.specs.cascading.Early.{AreEarlyLines, HearsEarly}
 use Rattle.afdx_text.proofs.OutputLemmas.{on-err}
-use Rattle.afdx_replay.proofs.CascadeArrivalLemmas.{told-arrival, begun-arrival, heard-early, heard-same, heard-none}
+use Rattle.afdx_replay.proofs.CascadeArrivalLemmas.{told-arrival, begun-arrival, heard-early, heard-same}
 use Rattle.afdx_replay.proofs.CascadeEventLemmas.{name-is}
+use Rattle.afdx_replay.proofs.EarlyLemmas.{hears-nobody}
 use Rattle.afdx_replay.proofs.cascading.teller.Teller.tell_arrival.Goals as goal
 
 pub returns-in_err-reason-clause-begun : goal.returns-in_err-reason-clause-begun
@@ -54,11 +55,12 @@ returns-then-is_over_rate-clause-heard g c before h start tells was =
 pub returns-else-is_over_rate-clause-heard : goal.returns-else-is_over_rate-clause-heard
 returns-else-is_over_rate-clause-heard g c before h start tells was =
     heard-same c.args.self.now.switches.now before c.args.brought.now h tells g.D.Write.contents
-    c.in_ok-reason.reason c.in_ok-reason.ensures.reason start c.in-Some.drops
+    c.in_ok-reason.reason c.in_ok-reason.ensures.reason start (Some c.in-Some.drops)
     (sym c.is_over_rate.ensures ∙ c.if-is_over_rate.false)
     (subst (λ e. HearsEarly g.D.Write.contents c.args.self.now.switches.now start e before) c.in-Some.is was)
 
 pub returns-in_default-clause-heard : goal.returns-in_default-clause-heard
 returns-in_default-clause-heard g c before h start tells was =
-    heard-none c.args.self.now.switches.now before h g.D.Write.contents start c.args.self.now.early
-    c.in_default.not-Some was
+    let ss = c.args.self.now.switches.now in
+    hears-nobody g.D.Write.contents (AreEarlyLines ss before) (AreEarlyLines ss (h ∷ before)) start
+    c.args.self.now.early c.in_default.not-Some was

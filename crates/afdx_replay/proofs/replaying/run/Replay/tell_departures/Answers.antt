@@ -22,6 +22,7 @@ loop-departed-preserved g c =
       clock = c.take.ensures.clock;
       sound = c.in_ok-tell_departure.ensures.failed;
       settings = c.tell_departure.ensures.settings ∙ c.loop-departed.invariant.settings;
+      early = c.loop-departed.invariant.early;
       room = λ n h.
           c.in_ok-tell_departure.ensures.room n (network.frames_held c.take.new.self)
           (subst (λ (k : ℕ). HasRoom c.loop-departed.self.counts k n)

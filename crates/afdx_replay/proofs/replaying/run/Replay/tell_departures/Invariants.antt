@@ -10,6 +10,7 @@ invariant-loop-departed g l = record {
   clock : network.IsUntil l.self.network l.until;
   sound : g.O.Sink.failed l.output ≡ false;
   settings : g.O.Sink.settings l.output ≡ g.O.Sink.settings l.fn.output;
+  early : l.self.early ≡ l.fn.self.early;
   room : (n : ℕ) → HasRoom l.fn.self.counts (network.frames_held l.fn.self.network) n
       → HasRoom l.self.counts (network.frames_held l.self.network) n;
   told : (t : Rows) (events : List Event) (start : Option (List ℕ))

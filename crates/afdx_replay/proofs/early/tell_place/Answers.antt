@@ -2,7 +2,7 @@ use Rattle.std.proofs.Common.{List, ℕ, subst}
 use Rattle.afdx_text.proofs.TellingLemmas.{Tells-more}
 use Rattle.afdx_text.specs.Telling.{Tells}
 use Rattle.afdx_replay.proofs.CascadeEventLemmas.{place-whole}
-use Rattle.afdx_replay.proofs.cascading.early.tell_place.Goals as goal
+use Rattle.afdx_replay.proofs.early.tell_place.Goals as goal
 
 pub returns-then-not-is_empty : goal.returns-then-not-is_empty
 returns-then-not-is_empty g c =
