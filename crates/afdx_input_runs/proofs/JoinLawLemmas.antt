@@ -44,8 +44,7 @@ module _ (came left : Coming) where
   unfolding of_role
   all-told =
       merge-keeps by_frame_time Told (record { first = told-came; second = told-left }) [] came.next came.fault
-      left.next
-      left.fault (record {
+      left.next left.fault (record {
         of_came = sym (append-nil (reverse came.next));
         of_left = sym (append-nil (reverse left.next));
       })

@@ -1,8 +1,7 @@
 -- What a run over two recordings answers, from what it hands from them to its machine.
-use Rattle.std.proofs.Common.{◌≡◌, ℕ, ◌≤◌, List, [], ◌∷◌, ◌++◌, length, refl, ap, sym, ◌∙◌, subst, arith}
+use Rattle.std.proofs.Common.{◌≡◌, ℕ, List, [], ◌∷◌, refl, ap, sym, ◌∙◌, subst, arith}
 use Rattle.std.proofs.Common.{IfSome, Option, Some, None, Result, Err, Bool, false, ◌||◌, inl, inr}
 use Rattle.afdx_frame.specs.declared.by_side.BySide.{BySide}
-use Rattle.afdx_frame.specs.declared.link.Side.TheVariants.{A, B}
 use Rattle.afdx_input_lines.specs.Calls.{is_read}
 use Rattle.afdx_input_lines.specs.Watching.{device_of, has_ended, has_failed}
 use Rattle.afdx_input_lines.specs.declared.fault.RunFault.{RunFault}
@@ -11,7 +10,7 @@ use Rattle.afdx_input_lines.specs.declared.watched.Watched.{Watched}
 use Rattle.afdx_input_lines.specs.declared.recording_fault.RecordingFault.TheVariants.{TimeTooLarge}
 use Rattle.afdx_input_files.specs.Holding.{standing, GivesSome}
 use Rattle.afdx_input_files.specs.Reading.{state_of}
-use Rattle.afdx_input_files.specs.Recordings.{most_numbers, totals_by}
+use Rattle.afdx_input_files.specs.Recordings.{totals_by}
 use Rattle.afdx_input_sources.specs.Engine.{Item}
 use Rattle.afdx_input_sources.specs.declared.ahead.Ahead.{Ahead}
 use Rattle.afdx_input_sources.specs.declared.ahead.AtHead.{AtHead}

@@ -255,9 +255,8 @@ module _ {R : Type 0} (remaining : R → Option (List ℕ)) (start inputs : BySi
       (taken_of Second past) refl h
 
   -- these numbers come first
-  first-by : (past : List (OfTwo Number)) (a b : ComingNumbers) (xs ys : Numbers) (fx fy : Option RunFault) →
-      Coming-a ≡ a
-      → Coming-b ≡ b → both_numbers a b ≡ merge by_moment (items_of past) xs fx ys fy
+  first-by : (past : List (OfTwo Number)) (a b : ComingNumbers) (xs ys : Numbers) (fx fy : Option RunFault)
+      → Coming-a ≡ a → Coming-b ≡ b → both_numbers a b ≡ merge by_moment (items_of past) xs fx ys fy
       → EndsIn (items_of past) (both_numbers Coming-a Coming-b).items
   first-by past a b xs ys fx fy is_a is_b go =
       let e = merge-extends by_moment (items_of past) xs fx ys fy in

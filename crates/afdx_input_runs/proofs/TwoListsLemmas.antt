@@ -1,11 +1,10 @@
 -- Two lists that are read at once: a frame of both may follow, and what comes of both.
-use Rattle.std.proofs.Common.{◌≡◌, ℕ, List, [], ◌∷◌, ◌++◌, length, map, reverse, refl, arith}
+use Rattle.std.proofs.Common.{◌≡◌, ℕ, List, [], ◌∷◌, ◌++◌, map, reverse, refl, arith}
 use Rattle.std.proofs.Common.{Option, Some, None}
 use Rattle.std.proofs.lemmas.List.{length-map}
 use Rattle.afdx_police.specs.Arrival.{Arrival}
 use Rattle.afdx_input_lines.specs.declared.fault.RunFault.{RunFault}
 use Rattle.afdx_input_lines.specs.declared.frame_line.Heading.{Heading}
-use Rattle.afdx_input_sources.specs.Engine.{Item}
 use Rattle.afdx_input_sources.specs.Items.{CanFollow, arrivals, heading_order}
 use Rattle.afdx_input_sources.specs.MergedSource.{CameFirst, FollowsBoth, Front, Gone, OfTwo, Unsought}
 use Rattle.afdx_input_sources.specs.MergedSource.{items_of, latest_by, taken_of}

@@ -21,7 +21,7 @@ use Rattle.afdx_input_sources.specs.declared.merged.Nth.TheVariants.{First, Seco
 use Rattle.afdx_input_runs.specs.declared.seen.Seen.{Seen}
 use Rattle.afdx_input_runs.specs.declared.two_lists.TwoLists.{TwoLists}
 use Rattle.afdx_input_sources.specs.Merging.{merge, merged_as}
-use Rattle.afdx_input_runs.specs.Joining.{Coming, Frame, Joined, ListsTo, by_frame_time, first_of, frame_of, frames_of, joined}
+use Rattle.afdx_input_runs.specs.Joining.{Coming, Joined, ListsTo, by_frame_time, first_of, frame_of, frames_of, joined}
 use Rattle.afdx_input_runs.specs.Joining.{role_of}
 use Rattle.afdx_input_runs.specs.TwoListsRun.{AreListed, HoldsOfFirst, IfBothGiven, TwoListsAnswer, TwoListsStop}
 use Rattle.afdx_input_runs.specs.TwoListsSource.{StopsWith, seen_of}
@@ -29,7 +29,7 @@ use Rattle.afdx_input_runs.proofs.FaultLemmas.{named-cause, read-cause}
 use Rattle.afdx_input_sources.proofs.CameLemmas.{IsTimed, ahead-timed}
 use Rattle.afdx_input_sources.proofs.MergeLemmas.{EndsIn, merge-extends}
 use Rattle.afdx_input_runs.proofs.PairAnswerLemmas.{if-both}
-use Rattle.afdx_input_runs.proofs.ListedLemmas.{Behind, StoppedBy, continues}
+use Rattle.afdx_input_runs.proofs.ListedLemmas.{StoppedBy, continues}
 use Rattle.afdx_input_runs.proofs.HeadedLemmas.{Comes, FrameList, Given, GivenAll, StoppedList, comes-by, given-all, stopped-list}
 use Rattle.afdx_input_runs.proofs.BothAskedLemmas.{Ended, Gave, RunsTwo, Stopped}
 use Rattle.afdx_input_runs.proofs.TwoListsLemmas.{lists-end, lists-go, lists-stop-came, lists-stop-left, time-of}
@@ -82,8 +82,8 @@ module _ {R : Type 0} (remaining : R → Option (List ℕ)) where
 
       first-by : (past : List (Item Seen)) (xs ys rest_x rest_y : List Arrival) (fx fy : Option RunFault)
           → ListsTo Came bytes_came xs fx → ListsTo Left bytes_left ys fy
-          → merge by_frame_time [] xs fx ys fy ≡ merge by_frame_time (frames_of past) rest_x fx rest_y fy →
-          AreFirst past
+          → merge by_frame_time [] xs fx ys fy ≡ merge by_frame_time (frames_of past) rest_x fx rest_y fy
+          → AreFirst past
       first-by past xs ys rest_x rest_y fx fy lists_x lists_y is =
           let e = merge-extends by_frame_time (frames_of past) rest_x fx rest_y fy in record {
             came = record { next = xs; fault = fx };

@@ -1,6 +1,6 @@
 -- What comes of two sources, from what came first of both.
 use Rattle.std.proofs.Common.{◌≡◌, ℕ, List, [], ◌∷◌, ◌++◌, reverse, append-nil, append_assoc, refl, ap, sym, ◌∙◌}
-use Rattle.std.proofs.Common.{Option, Some, None, true, false}
+use Rattle.std.proofs.Common.{Option, Some, None, true}
 use Rattle.std.proofs.lemmas.List.{reverse-append}
 use Rattle.std.specs.Prelude.{⊤}
 use Rattle.afdx_input_lines.specs.declared.fault.RunFault.{RunFault}

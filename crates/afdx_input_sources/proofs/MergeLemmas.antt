@@ -1,5 +1,5 @@
 -- Two sources as one, by time: one item more of either, the ends, and what is true step by step.
-use Rattle.std.proofs.Common.{◌≡◌, ℕ, List, [], ◌∷◌, ◌++◌, append_assoc, refl, ap, sym, ◌∙◌}
+use Rattle.std.proofs.Common.{◌≡◌, ℕ, List, [], ◌∷◌, ◌++◌, refl, ap, sym, ◌∙◌}
 use Rattle.std.proofs.Common.{Option, Some, None, Bool, true, false, if◌then◌else◌}
 use Rattle.afdx_input_lines.specs.declared.fault.RunFault.{RunFault}
 use Rattle.afdx_input_sources.specs.declared.merged.Nth.TheVariants.{First, Second}
@@ -178,7 +178,7 @@ module _ {X Z : Type 0} (by : ByTime X Z) where
           go (Some t) is more = true-head fx x xs t is (λ before zs. merge by before xs fx zs fy) fy more past ys p
           go None is more = more (by.as_one First x ∷ past) ys (kept.first past x xs ys (next-at-once x ys is) p)
 
-  -- ---- what comes stands behind what was there
+-- ---- what comes stands behind what was there
 
 -- it ends in this
 abbrev pub EndsIn : {Z : Type 0} → List Z → List Z → Type 0
