@@ -12,7 +12,7 @@ is_finding (Stopped n side port) = true
 is_finding (Late n side port by) = true
 is_finding (Early n side port by) = true
 is_finding (Unsure n side port) = false
-is_finding (Judged answer explained waiting uncertain left_out unseen idle) = false
+is_finding (Judged last) = false
 
 abbrev pub one_if : Bool → ℕ
 one_if true = 1

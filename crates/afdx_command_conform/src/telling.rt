@@ -14,7 +14,7 @@ fn is_finding(line: &ConformLine) -> bool
     ensures { result ≡ spec.is_finding line.now }
 {
     match line {
-        ConformLine::Unsure { .. } | ConformLine::Judged { .. } => false,
+        ConformLine::Unsure { .. } | ConformLine::Judged(_) => false,
         _ => true,
     }
 }

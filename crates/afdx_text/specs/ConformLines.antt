@@ -5,6 +5,7 @@ use Rattle.afdx_frame.specs.declared.link.Side.{Side}
 use Rattle.afdx_police.specs.Words.{reason_word}
 use Rattle.afdx_text.specs.declared.conform_line.Answer.{Answer}
 use Rattle.afdx_text.specs.declared.conform_line.Answer.TheVariants.{Conforms, Deviates, Undecided}
+use Rattle.afdx_text.specs.declared.conform_line.Conclusion.{Conclusion}
 use Rattle.afdx_text.specs.declared.conform_line.ConformLine.{ConformLine}
 use Rattle.afdx_text.specs.declared.conform_line.ConformLine.TheVariants.{Strange, Passed, Stopped, Late}
 use Rattle.afdx_text.specs.declared.conform_line.ConformLine.TheVariants.{Early, Unsure, Judged}
@@ -50,12 +51,13 @@ answer_text (Deviates findings) = count_text (codes "deviates ") findings
 answer_text Undecided = codes "undecided"
 
 -- the last line: the answer, and how many frames and arrivals it stands on
-abbrev pub judged_line : Answer → ℕ → ℕ → ℕ → ℕ → ℕ → ℕ → List ℕ
-judged_line answer explained waiting uncertain left_out unseen idle =
-    answer_text answer
-    ++ count_text (codes " explained ") explained ++ count_text (codes " open ") waiting
-    ++ count_text (codes " uncertain ") uncertain ++ count_text (codes " left-out ") left_out
-    ++ count_text (codes " unseen ") unseen ++ count_text (codes " idle ") idle ++ codes "\n"
+abbrev pub judged_line : Conclusion → List ℕ
+judged_line last =
+    answer_text last.answer
+    ++ count_text (codes " explained ") last.explained ++ count_text (codes " open ") last.waiting
+    ++ count_text (codes " uncertain ") last.uncertain
+    ++ count_text (codes " left-out ") last.left_out ++ count_text (codes " unseen ") last.unseen
+    ++ count_text (codes " idle ") last.idle ++ codes "\n"
 
 abbrev pub conform_text : ConformLine → List ℕ
 conform_text (Strange n side port why) =
@@ -69,5 +71,4 @@ conform_text (Late n side port by) =
 conform_text (Early n side port by) =
     found_text (codes "early ") n side port ++ codes " " ++ decimal by ++ codes "\n"
 conform_text (Unsure n side port) = found_text (codes "unsure ") n side port ++ codes "\n"
-conform_text (Judged answer explained waiting uncertain left_out unseen idle) =
-    judged_line answer explained waiting uncertain left_out unseen idle
+conform_text (Judged last) = judged_line last

@@ -22,6 +22,20 @@ pub enum Answer {
     Undecided,
 }
 
+/// What the last line says: the answer; how many frames are explained; how many arrivals there are
+/// whose frames may come later, and how many of which both answers are right; how many lines were
+/// left out; how many streams weren't recorded, and of how many that were nothing was shown.
+#[derive(Clone, Copy, Debug, PartialEq, Eq)]
+pub struct Conclusion {
+    pub answer: Answer,
+    pub explained: u64,
+    pub waiting: u64,
+    pub uncertain: u64,
+    pub left_out: u64,
+    pub unseen: u64,
+    pub idle: u64,
+}
+
 /// A line of `conform`. A stream is a link at an output port of a side; `n` is a line of CAME, but
 /// in `strange`, where it is one of LEFT; `port` is the output port.
 #[derive(Clone, Copy, Debug, PartialEq, Eq)]
@@ -66,18 +80,8 @@ pub enum ConformLine {
         side: Side,
         port: u8,
     },
-    /// The last line: the answer; the frames that are explained; the arrivals whose frames may come
-    /// later; those of which both answers are right; the lines that were left out; the streams that
-    /// weren't recorded; those that were and of which nothing was shown.
-    Judged {
-        answer: Answer,
-        explained: u64,
-        waiting: u64,
-        uncertain: u64,
-        left_out: u64,
-        unseen: u64,
-        idle: u64,
-    },
+    /// The last line.
+    Judged(Conclusion),
 }
 
 /// The most bytes of a line of `conform`.
@@ -155,30 +159,18 @@ fn put_answer(room: &mut [u8], at: usize, answer: Answer) -> usize
 
 /// `VERDICT explained N open K uncertain U left-out L unseen W idle I`.
 #[inline(never)]
-fn put_judged(
-    room: &mut [u8],
-    at: usize,
-    answer: Answer,
-    explained: u64,
-    waiting: u64,
-    uncertain: u64,
-    left_out: u64,
-    unseen: u64,
-    idle: u64,
-) -> usize
+fn put_judged(room: &mut [u8], at: usize, last: Conclusion) -> usize
     requires { at + 256 ≤ length room.old }
     ensures within { result ≤ at + 256 }
-    ensures text { take result room.new
-        ≡ take at room.old
-        ++ judged_line answer explained waiting uncertain left_out unseen idle }
+    ensures text { take result room.new ≡ take at room.old ++ judged_line last }
 {
-    let at = put_answer(room, at, answer);
-    let at = put_count(room, at, b" explained ", explained);
-    let at = put_count(room, at, b" open ", waiting);
-    let at = put_count(room, at, b" uncertain ", uncertain);
-    let at = put_count(room, at, b" left-out ", left_out);
-    let at = put_count(room, at, b" unseen ", unseen);
-    let at = put_count(room, at, b" idle ", idle);
+    let at = put_answer(room, at, last.answer);
+    let at = put_count(room, at, b" explained ", last.explained);
+    let at = put_count(room, at, b" open ", last.waiting);
+    let at = put_count(room, at, b" uncertain ", last.uncertain);
+    let at = put_count(room, at, b" left-out ", last.left_out);
+    let at = put_count(room, at, b" unseen ", last.unseen);
+    let at = put_count(room, at, b" idle ", last.idle);
     put(room, at, b"\n")
 }
 
@@ -221,17 +213,7 @@ impl ConformLine {
                 let at = put_found(room, at, b"unsure ", n, side, port);
                 put(room, at, b"\n")
             }
-            ConformLine::Judged {
-                answer,
-                explained,
-                waiting,
-                uncertain,
-                left_out,
-                unseen,
-                idle,
-            } => put_judged(
-                room, at, answer, explained, waiting, uncertain, left_out, unseen, idle,
-            ),
+            ConformLine::Judged(last) => put_judged(room, at, last),
         }
     }
 }

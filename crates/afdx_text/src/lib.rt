@@ -24,7 +24,7 @@ mod whole_lines;
 mod writing;
 
 pub use check_lines::CheckLine;
-pub use conform_line::{Answer, ConformLine};
+pub use conform_line::{Answer, Conclusion, ConformLine};
 pub use line::OutLine;
 pub use offered::Offered;
 pub use output::Output;
