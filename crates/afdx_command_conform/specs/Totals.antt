@@ -19,8 +19,15 @@ answer_of t =
     else Conforms
 
 abbrev pub last_line : Totals → ConformLine
-last_line t =
-    Judged (answer_of t) t.explained t.waiting t.uncertain t.left_out t.unseen t.idle
+last_line t = Judged (record {
+  answer = answer_of t;
+  explained = t.explained;
+  waiting = t.waiting;
+  uncertain = t.uncertain;
+  left_out = t.left_out;
+  unseen = t.unseen;
+  idle = t.idle;
+})
 
 -- the exit status of a run that came to its end
 abbrev pub answer_status : Answer → ℕ

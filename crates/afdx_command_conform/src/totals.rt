@@ -11,7 +11,7 @@ ghost use Rattle.afdx_command_conform.specs.Totals as spec;
 ghost use Rattle.afdx_command_conform.specs.declared.key.Key.{Key};
 
 use crate::slot::Slot;
-use afdx_text::{Answer, ConformLine};
+use afdx_text::{Answer, Conclusion, ConformLine};
 
 /// What a run counted.
 ///
@@ -120,7 +120,7 @@ impl Totals {
     pub fn line(&self) -> ConformLine
         ensures { result ≡ spec.last_line self.now }
     {
-        ConformLine::Judged {
+        ConformLine::Judged(Conclusion {
             answer: self.answer(),
             explained: self.explained,
             waiting: self.waiting,
@@ -128,7 +128,7 @@ impl Totals {
             left_out: self.left_out,
             unseen: self.unseen,
             idle: self.idle,
-        }
+        })
     }
 
     /// The exit status: 0 conforms, 5 deviates, 3 undecided.
