@@ -12,15 +12,13 @@ use Rattle.afdx_input_runs.specs.Joining.{Frame}
 use Rattle.afdx_police.specs.Arrival.{Arrival}
 use Rattle.afdx_conform.specs.Findings.{Found, Judged, Marked}
 use Rattle.afdx_conform.specs.Streams.{Terms}
-use Rattle.afdx_conform.specs.declared.finding.Finding.{Finding}
-use Rattle.afdx_conform.specs.declared.finding.Finding.TheVariants as finding
 use Rattle.afdx_text.specs.declared.conform_line.ConformLine.{ConformLine}
 use Rattle.afdx_conform.proofs.EveryLemmas.{every-append, every-map, every-reverse, every-right, every-unmap}
 use Rattle.afdx_conform.proofs.QuietLemmas.{behind_one}
 use Rattle.afdx_command_conform.specs.Choices.{Choices}
 use Rattle.afdx_command_conform.specs.Frames.{strangers_of, terms_at}
 use Rattle.afdx_command_conform.specs.Keys.{key_with}
-use Rattle.afdx_command_conform.specs.Lines.{AreLines, Due, dues_by, found_due, found_line, judged_at, judged_dues, lines_of, of_key, stranger_due, stream_dues, unsure_dues}
+use Rattle.afdx_command_conform.specs.Lines.{AreLines, Due, dues_by, found_due, judged_at, judged_dues, lines_of, of_key, stranger_due, stream_dues, unsure_dues}
 use Rattle.afdx_command_conform.specs.RunLaws.{AreAll, NoneIsStrange, NothingIsFound}
 use Rattle.afdx_command_conform.specs.Tapped.{judged_to}
 use Rattle.afdx_command_conform.specs.Telling.{findings_in, is_finding, one_if}
@@ -66,17 +64,10 @@ quiet-all dues h =
 
 -- ---- those of one stream
 
-is-found : (side : Side) (port : ℕ) (f : Finding) → is_finding (found_line side port f) ≡ true
-is-found side port (finding.Strange m why) = refl
-is-found side port (finding.Passed n reason) = refl
-is-found side port (finding.Stopped n) = refl
-is-found side port (finding.Late n by) = refl
-is-found side port (finding.Early n by) = refl
-
 nothing-found : (z : Terms) (k : Key) (found : List Found) → AllByRecursion IsQuiet (map (found_due z k) found)
     → found ≡ []
 nothing-found z k [] h = refl
-nothing-found z k (f ∷ found) h = absurd (true≢false (sym (is-found k.side k.port f.finding) ∙ h.0))
+nothing-found z k (f ∷ found) h = absurd (true≢false h.0)
 
 unsure-quiet : (z : Terms) (k : Key) (marks : List Marked) → AllByRecursion IsQuiet (unsure_dues z k marks)
 unsure-quiet z k [] = tt

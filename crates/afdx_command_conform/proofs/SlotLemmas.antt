@@ -42,13 +42,13 @@ reverse-map f (x ∷ xs) = reverse-append (f x ∷ []) (map f xs) ∙ ap (λ l. 
 -- the lines of findings of one event, as they are told
 pub found-dues : (z : Terms) (k : Key) (m : ℕ) (found : List Finding) → moment_at z (time_of z m) ≡ m
     → map (found_due z k) (map (found_at (time_of z m)) (reverse found))
-    ≡ map (due_at k m) (reverse (map (found_line k.side k.port) found))
+    ≡ map (due_at k m) (reverse (map (found_line k) found))
 found-dues z k m found e =
-    map-both (found_due z k) (found_at (time_of z m)) (λ f. due_at k m (found_line k.side k.port f))
-    (λ f. ap (λ n. due_at k n (found_line k.side k.port f)) e) (reverse found)
-    ∙ sym (map-both (due_at k m) (found_line k.side k.port) (λ f. due_at k m (found_line k.side k.port f))
+    map-both (found_due z k) (found_at (time_of z m)) (λ f. due_at k m (found_line k f))
+    (λ f. ap (λ n. due_at k n (found_line k f)) e) (reverse found)
+    ∙ sym (map-both (due_at k m) (found_line k) (λ f. due_at k m (found_line k f))
     (λ f. refl) (reverse found))
-    ∙ ap (λ l. map (due_at k m) l) (sym (reverse-map (found_line k.side k.port) found))
+    ∙ ap (λ l. map (due_at k m) l) (sym (reverse-map (found_line k) found))
 
 pub newest-last : (xs : List Marked) (m : Marked) → newest_tag (xs ++ m ∷ []) ≡ Some m.arrival.tag
 newest-last [] m = refl
@@ -92,7 +92,7 @@ pub told-found : (z : Terms) (k : Key) (m : ℕ) (found : List Finding) (j after
     (unsure : Option ℕ) (lines all : List ConformLine)
     → Finds z m found j after due
     → unsure ≡ unsure_in after
-    → lines ≡ map (found_line k.side k.port) found
+    → lines ≡ map (found_line k) found
     → all ≡ unsure_behind k unsure lines
     → judged_dues z k after ≡ told_at k m all (judged_dues z k j)
 unfolding judged_dues

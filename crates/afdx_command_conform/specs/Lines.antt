@@ -14,13 +14,11 @@ use Rattle.afdx_conform.specs.Histories.{judged_of}
 use Rattle.afdx_conform.specs.Findings.{Found, Judged, Marked}
 use Rattle.afdx_conform.specs.Streams.{Terms}
 use Rattle.afdx_conform.specs.declared.finding.Finding.{Finding}
-use Rattle.afdx_conform.specs.declared.finding.Finding.TheVariants as finding
-use Rattle.afdx_conform.specs.declared.finding.Strangeness.{Strangeness}
-use Rattle.afdx_conform.specs.declared.finding.Strangeness.TheVariants as strangeness
+use Rattle.afdx_conform.specs.declared.finding.Finding.TheVariants.{Strange}
+use Rattle.afdx_conform.specs.declared.strangeness.Strangeness.{Strangeness}
+use Rattle.afdx_conform.specs.declared.strangeness.Strangeness.TheVariants.{Shape, NotItsPort}
 use Rattle.afdx_text.specs.declared.conform_line.ConformLine.{ConformLine}
-use Rattle.afdx_text.specs.declared.conform_line.ConformLine.TheVariants.{Strange, Passed, Stopped, Late, Early, Unsure}
-use Rattle.afdx_text.specs.declared.strange.StrangeReason.{StrangeReason}
-use Rattle.afdx_text.specs.declared.strange.StrangeReason.TheVariants.{Shape, NotItsPort, OutOfTurn, NoArrival}
+use Rattle.afdx_text.specs.declared.conform_line.ConformLine.TheVariants as line
 use Rattle.afdx_command_conform.specs.Choices.{Choices}
 use Rattle.afdx_command_conform.specs.Frames.{arrivals_of, frames_of, strangers_of, place_named, terms_at}
 use Rattle.afdx_command_conform.specs.Keys.{is_key, key_rank}
@@ -56,43 +54,35 @@ of_key k lines = filter (λ d. is_key k d.key) lines
 abbrev pub lines_of : List Due → List ConformLine
 lines_of lines = reverse (map (λ d. d.line) lines)
 
+-- the line of a finding
+abbrev pub found_line : Key → Finding → ConformLine
+found_line k finding = line.Found k.side k.port finding
+
 -- ---- frames that are of no stream
 
 -- why the frame is none of the link's that its bytes name: the first that is true
-abbrev pub stranger_by : (is_named : Bool) → Option Reason → StrangeReason
+abbrev pub stranger_by : (is_named : Bool) → Option Reason → Strangeness
 stranger_by true (Some UnknownLink) = NotItsPort
 stranger_by is_named (Some reason) = Shape reason
 stranger_by is_named None = NotItsPort
 
-abbrev pub stranger_reason : Rows → List ℕ → StrangeReason
+abbrev pub stranger_reason : Rows → List ℕ → Strangeness
 stranger_reason t bytes = stranger_by (is_some (place_named t bytes)) (fault_of None 0 bytes)
 
 abbrev pub stranger_due : Rows → Key → Arrival → Due
 stranger_due t k x =
-    due_at k x.time (Strange x.tag k.side k.port (stranger_reason t x.bytes))
+    due_at k x.time (found_line k (Strange x.tag (stranger_reason t x.bytes)))
 
 -- ---- what is found in a stream
 
-abbrev pub strange_reason : Strangeness → StrangeReason
-strange_reason (strangeness.Damaged reason) = Shape reason
-strange_reason strangeness.OutOfTurn = OutOfTurn
-strange_reason strangeness.NoArrival = NoArrival
-
-abbrev pub found_line : Side → ℕ → Finding → ConformLine
-found_line side port (finding.Strange m why) = Strange m side port (strange_reason why)
-found_line side port (finding.Passed n reason) = Passed n side port reason
-found_line side port (finding.Stopped n) = Stopped n side port
-found_line side port (finding.Late n by) = Late n side port by
-found_line side port (finding.Early n by) = Early n side port by
-
 abbrev pub found_due : Terms → Key → Found → Due
-found_due z k f = due_at k (moment_at z f.time) (found_line k.side k.port f.finding)
+found_due z k f = due_at k (moment_at z f.time) (found_line k f.finding)
 
 -- the newest of some arrivals, behind which there were too many states
 abbrev pub unsure_dues : Terms → Key → List Marked → List Due
 unsure_dues z k [] = []
 unsure_dues z k (m ∷ before) =
-    due_at k (moment_at z m.arrival.time) (Unsure m.arrival.tag k.side k.port) ∷ []
+    due_at k (moment_at z m.arrival.time) (line.Unsure m.arrival.tag k.side k.port) ∷ []
 
 -- the lines of a stream that is judged so
 unfoldable pub judged_dues : Terms → Key → Judged → List Due

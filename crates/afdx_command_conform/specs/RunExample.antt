@@ -10,15 +10,16 @@ use Rattle.afdx_input_lines.specs.declared.role.Role.TheVariants.{Came, Left}
 use Rattle.afdx_police.specs.Arrival.{arrival_with}
 use Rattle.afdx_conform.specs.Leeways.{leeway_with}
 use Rattle.afdx_conform.specs.Worked.{frame_bytes}
+use Rattle.afdx_conform.specs.declared.finding.Finding.TheVariants.{Late}
 use Rattle.afdx_text.specs.declared.conform_line.Answer.TheVariants.{Conforms, Deviates}
-use Rattle.afdx_text.specs.declared.conform_line.ConformLine.TheVariants.{Late}
 use Rattle.afdx_command_conform.specs.Choices.{Choices}
 use Rattle.afdx_command_conform.specs.Frames.{frame_with}
 use Rattle.afdx_command_conform.specs.Keys.{key_with}
-use Rattle.afdx_command_conform.specs.Lines.{AreLines, Due, due_at}
+use Rattle.afdx_command_conform.specs.Lines.{AreLines, Due, due_at, found_line}
 use Rattle.afdx_command_conform.specs.RunLaws.{AreByTime, AreOfRight, IsExactBy}
 use Rattle.afdx_command_conform.specs.Tapped.{all_taps}
 use Rattle.afdx_command_conform.specs.VerdictLaws.{answered}
+use Rattle.afdx_command_conform.specs.declared.key.Key.{Key}
 
 abbrev pub sender : SystemRow
 sender = record { name = codes "s1"; port = 1; id = 1; partition = 1; rate = 100 }
@@ -54,9 +55,13 @@ abbrev pub frames_at : ℕ → List joining.Frame
 frames_at time = frame_with Left (arrival_with 1 time A 3 frame_bytes)
     ∷ frame_with Came (arrival_with 1 0 A 1 frame_bytes) ∷ []
 
+-- whose stream is this one's
+abbrev pub outlet : Key
+outlet = key_with A 3 (Some 0)
+
 -- the line that says that it was late, two latencies behind its arrival
 abbrev pub late_line : Due
-late_line = due_at (key_with A 3 (Some 0)) 34000 (Late 1 A 3 1)
+late_line = due_at outlet 34000 (found_line outlet (Late 1 1))
 
 pub record PremisesAreMet : Type 0 where
   pub lawful : IsLawfulSwitch tables

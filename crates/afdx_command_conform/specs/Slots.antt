@@ -6,9 +6,10 @@ use Rattle.afdx_police.specs.Arrival.{Arrival}
 use Rattle.afdx_conform.specs.Findings.{Judged}
 use Rattle.afdx_conform.specs.Standing.{IsEnding, StandsFor}
 use Rattle.afdx_conform.specs.Streams.{Gone, Terms}
+use Rattle.afdx_conform.specs.declared.finding.Finding.TheVariants.{Strange}
 use Rattle.afdx_text.specs.declared.conform_line.ConformLine.{ConformLine}
 use Rattle.afdx_text.specs.declared.conform_line.ConformLine.TheVariants as line
-use Rattle.afdx_command_conform.specs.Lines.{Due, due_at, judged_dues}
+use Rattle.afdx_command_conform.specs.Lines.{Due, due_at, found_line, judged_dues}
 use Rattle.afdx_command_conform.specs.Waiting.{slot_due}
 use Rattle.afdx_command_conform.specs.declared.key.Key.{Key}
 use Rattle.afdx_command_conform.specs.declared.slot.Slot.{Slot}
@@ -25,7 +26,7 @@ unsure_behind k None lines = lines
 unsure_behind k (Some n) lines = lines ++ line.Unsure n k.side k.port ∷ []
 
 abbrev pub waiting_due : Key → Stranger → Due
-waiting_due k s = due_at k s.time (line.Strange s.number k.side k.port s.why)
+waiting_due k s = due_at k s.time (found_line k (Strange s.number s.why))
 
 -- none of these lines is due before one behind it
 unfoldable pub AreFalling : List Due → Type 0

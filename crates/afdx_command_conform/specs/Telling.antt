@@ -2,17 +2,13 @@
 use Rattle.std.specs.Prelude.{ℕ, ◌+◌, Bool, true, false, List, [], ◌∷◌, ◌++◌}
 use Rattle.afdx_text.specs.ConformLines.{conform_text}
 use Rattle.afdx_text.specs.declared.conform_line.ConformLine.{ConformLine}
-use Rattle.afdx_text.specs.declared.conform_line.ConformLine.TheVariants.{Strange, Passed, Stopped, Late, Early, Unsure, Judged}
+use Rattle.afdx_text.specs.declared.conform_line.ConformLine.TheVariants.{Found, Unsure, Judged}
 
 -- it says what the switch did wrong
 abbrev pub is_finding : ConformLine → Bool
-is_finding (Strange n side port why) = true
-is_finding (Passed n side port reason) = true
-is_finding (Stopped n side port) = true
-is_finding (Late n side port by) = true
-is_finding (Early n side port by) = true
+is_finding (Found side port finding) = true
 is_finding (Unsure n side port) = false
-is_finding (Judged last) = false
+is_finding (Judged conclusion) = false
 
 abbrev pub one_if : Bool → ℕ
 one_if true = 1

@@ -10,7 +10,7 @@ ghost use Rattle.afdx_conform.specs.Marks.{IsJudged, arrival_of};
 ghost use Rattle.afdx_conform.specs.Streams.{Gone, Terms};
 ghost use Rattle.afdx_conform.specs.Findings.{Judged};
 ghost use Rattle.afdx_conform.specs.Standing.{IsEnding, StandsFor, due_of};
-ghost use Rattle.afdx_command_conform.specs.Lines.{Due, found_line, judged_dues, strange_reason};
+ghost use Rattle.afdx_command_conform.specs.Lines.{Due, found_line, judged_dues};
 ghost use Rattle.afdx_command_conform.specs.Waiting.{first_time, slot_due, slot_left};
 ghost use Rattle.afdx_conform.specs.Standing.{undecided_in};
 ghost use Rattle.afdx_command_conform.specs.Slots.{AreFalling, Ends, IsNewlyDue, IsStrange, IsStream, StrangersStand, StreamEnds};
@@ -18,8 +18,8 @@ ghost use Rattle.afdx_command_conform.specs.Slots.{StreamStands, told_at, unsure
 
 use crate::key::Key;
 use crate::strangers::{Stranger, Strangers};
-use afdx_conform::{Arrived, Finding, LeftFrame, Spare, Strangeness, Stream};
-use afdx_text::{ConformLine, StrangeReason};
+use afdx_conform::{Arrived, Finding, LeftFrame, Spare, Stream};
+use afdx_text::ConformLine;
 use std::alloc::{AllocError, Global};
 
 /// What is kept of a key.
@@ -150,42 +150,21 @@ pub(crate) fn end_at(at: &mut Slot, until: u64)
     }
 }
 
-/// Why a frame is strange, in the words of the output.
-fn reason_of(strangeness: Strangeness) -> StrangeReason
-    ensures { result ≡ strange_reason strangeness }
-{
-    match strangeness {
-        Strangeness::Damaged(reason) => StrangeReason::Shape(reason),
-        Strangeness::OutOfTurn => StrangeReason::OutOfTurn,
-        Strangeness::NoArrival => StrangeReason::NoArrival,
-    }
-}
-
 /// The line of a finding.
 fn line_of(key: Key, finding: Finding) -> ConformLine
-    ensures { result ≡ found_line key.side key.port finding }
+    ensures { result ≡ found_line key finding }
 {
     let (side, port) = (key.side, key.port);
-    match finding {
-        Finding::Strange(n, strangeness) => {
-            let why = reason_of(strangeness);
-            ConformLine::Strange { n, side, port, why }
-        }
-        Finding::Passed(n, reason) => ConformLine::Passed {
-            n,
-            side,
-            port,
-            reason,
-        },
-        Finding::Stopped(n) => ConformLine::Stopped { n, side, port },
-        Finding::Late(n, by) => ConformLine::Late { n, side, port, by },
-        Finding::Early(n, by) => ConformLine::Early { n, side, port, by },
+    ConformLine::Found {
+        side,
+        port,
+        finding,
     }
 }
 
 /// The lines of findings, in their order.
 fn lines_of(alloc: Global, key: Key, found: &[Finding]) -> Result<Vec<ConformLine>, AllocError>
-    ensures { IfOk result (λ lines. lines.items ≡ map (found_line key.side key.port) found.now) }
+    ensures { IfOk result (λ lines. lines.items ≡ map (found_line key) found.now) }
 {
     let mut lines = Vec::new(alloc);
     for finding in found {
@@ -258,11 +237,12 @@ fn step_strangers(
 {
     let mut lines = Vec::new(alloc);
     if let Some(stranger) = strangers.take_first() {
-        lines.push(ConformLine::Strange {
-            n: stranger.number,
-            side: key.side,
-            port: key.port,
-            why: stranger.why,
+        let finding = Finding::Strange(stranger.number, stranger.why);
+        let (side, port) = (key.side, key.port);
+        lines.push(ConformLine::Found {
+            side,
+            port,
+            finding,
         })?;
     }
     Ok(lines)

@@ -7,9 +7,9 @@ ghost use Rattle.afdx_command_conform.specs.Lines.{stranger_by};
 ghost use Rattle.afdx_command_conform.specs.Tapped as spec;
 ghost use Rattle.afdx_command_conform.specs.Waiting.{first_time};
 
+use afdx_conform::Strangeness;
 use afdx_frame::Checked;
 use afdx_police::{Reason, judge_checked};
-use afdx_text::StrangeReason;
 use std::alloc::{AllocError, Global};
 use std::collections::VecDeque;
 
@@ -18,23 +18,23 @@ use std::collections::VecDeque;
 pub(crate) struct Stranger {
     pub(crate) number: u64,
     pub(crate) time: u64,
-    pub(crate) why: StrangeReason,
+    pub(crate) why: Strangeness,
 }
 
 /// Why a frame of no stream is strange; `is_named` says whether it names a link of the tables.
-pub(crate) fn why_strange(frame: Checked<'_>, is_named: bool) -> StrangeReason
+pub(crate) fn why_strange(frame: Checked<'_>, is_named: bool) -> Strangeness
     ensures { result ≡ stranger_by is_named (fault_of None 0 (bytes_of frame.entry)) }
 {
     match judge_checked(None, 0, frame) {
         Some(Reason::UnknownLink) => {
             if is_named {
-                StrangeReason::NotItsPort
+                Strangeness::NotItsPort
             } else {
-                StrangeReason::Shape(Reason::UnknownLink)
+                Strangeness::Shape(Reason::UnknownLink)
             }
         }
-        Some(reason) => StrangeReason::Shape(reason),
-        None => StrangeReason::NotItsPort,
+        Some(reason) => Strangeness::Shape(reason),
+        None => Strangeness::NotItsPort,
     }
 }
 

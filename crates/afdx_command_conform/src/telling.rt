@@ -14,8 +14,8 @@ fn is_finding(line: &ConformLine) -> bool
     ensures { result ≡ spec.is_finding line.now }
 {
     match line {
+        ConformLine::Found { .. } => true,
         ConformLine::Unsure { .. } | ConformLine::Judged(_) => false,
-        _ => true,
     }
 }
 

@@ -15,7 +15,7 @@ use Rattle.afdx_conform.specs.Streams.{Gone, Terms, fits}
 use Rattle.afdx_conform.specs.declared.finding.Deviation.{Deviation}
 use Rattle.afdx_conform.specs.declared.finding.Deviation.TheVariants as deviation
 use Rattle.afdx_conform.specs.declared.finding.Finding.TheVariants.{Strange}
-use Rattle.afdx_conform.specs.declared.finding.Strangeness.TheVariants.{OutOfTurn, NoArrival}
+use Rattle.afdx_conform.specs.declared.strangeness.Strangeness.TheVariants.{OutOfTurn, NoArrival}
 
 module _ (z : Terms) where
   abbrev NoneFits : Gone → List Marked → Type 0

@@ -7,8 +7,8 @@ use Rattle.std.specs.Option.{option_to_list}
 use Rattle.afdx_police.specs.declared.shape.Reason.{Reason}
 use Rattle.afdx_conform.specs.Findings.{Finding, Found, Marked, marked, Judged, judged_with, found_at, frames_of, frames_in, names_it, passed_or, named_or, first_named, once_named, finding_or, damaged_or, damage, is_of_right, strangeness, unexplained}
 use Rattle.afdx_conform.specs.declared.finding.Finding.TheVariants.{Strange, Passed}
-use Rattle.afdx_conform.specs.declared.finding.Strangeness.{Strangeness}
-use Rattle.afdx_conform.specs.declared.finding.Strangeness.TheVariants.{Damaged, OutOfTurn, NoArrival}
+use Rattle.afdx_conform.specs.declared.strangeness.Strangeness.{Strangeness}
+use Rattle.afdx_conform.specs.declared.strangeness.Strangeness.TheVariants.{Shape, OutOfTurn, NoArrival}
 use Rattle.afdx_conform.specs.Marks.{arrival_of, marked_of, marked_all, told}
 use Rattle.afdx_conform.specs.Naming.{IsNoneNamed, IsNamedAt, may_be_named, unexplained_all, with_last}
 use Rattle.afdx_conform.specs.Streams.{Gone, Terms, fits}
@@ -245,7 +245,7 @@ module _ (z : Terms) (l : List Marked) (y : Gone) where
   abbrev turn : Strangeness
   turn = if list_any (λ m. is_of_right z y m) l then OutOfTurn else NoArrival
 
-  pub strange-damaged : (reason : Reason) → damage y.bytes ≡ Some reason → Damaged reason ≡ strangeness z l y
+  pub strange-damaged : (reason : Reason) → damage y.bytes ≡ Some reason → Shape reason ≡ strangeness z l y
   unfolding strangeness
   strange-damaged reason e = sym (ap (λ (o : Option Reason). damaged_or o turn) e)
 

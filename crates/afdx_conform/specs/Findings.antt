@@ -12,8 +12,8 @@ use Rattle.afdx_police.specs.declared.shape.Reason.{Reason}
 use Rattle.afdx_police.specs.declared.shape.Reason.TheVariants.{TooShort, TooLong, BadFcs, OverRate}
 pub use Rattle.afdx_conform.specs.declared.finding.Finding.{Finding}
 use Rattle.afdx_conform.specs.declared.finding.Finding.TheVariants.{Strange, Passed, Stopped, Late, Early}
-pub use Rattle.afdx_conform.specs.declared.finding.Strangeness.{Strangeness}
-use Rattle.afdx_conform.specs.declared.finding.Strangeness.TheVariants.{Damaged, OutOfTurn, NoArrival}
+pub use Rattle.afdx_conform.specs.declared.strangeness.Strangeness.{Strangeness}
+use Rattle.afdx_conform.specs.declared.strangeness.Strangeness.TheVariants.{Shape, OutOfTurn, NoArrival}
 use Rattle.afdx_conform.specs.declared.finding.Deviation.{Deviation}
 use Rattle.afdx_conform.specs.declared.finding.Deviation.TheVariants as deviation
 use Rattle.afdx_conform.specs.Explanations.{link, charge, last_time, levels_then}
@@ -153,7 +153,7 @@ named_or (Some reason) m more others = marked m.arrival m.mark true ∷ more
 
 abbrev pub damaged_or : Option Reason → Strangeness → Strangeness
 damaged_or None others = others
-damaged_or (Some reason) others = Damaged reason
+damaged_or (Some reason) others = Shape reason
 
 -- the first that is true of the frame
 abbrev pub damage : List ℕ → Option Reason

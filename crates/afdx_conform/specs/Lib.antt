@@ -40,3 +40,4 @@ pub mod Growing
 pub mod Standing
 pub mod Arriving
 pub mod Ways
+pub mod Words

@@ -8,7 +8,7 @@ use Rattle.afdx_police.specs.Rule.{rule_with}
 use Rattle.afdx_police.specs.declared.shape.Reason.TheVariants.{OverRate}
 use Rattle.afdx_conform.specs.Findings.{Found, found_at, judged_after}
 use Rattle.afdx_conform.specs.declared.finding.Finding.TheVariants.{Strange, Passed, Stopped, Late, Early}
-use Rattle.afdx_conform.specs.declared.finding.Strangeness.TheVariants.{OutOfTurn, NoArrival}
+use Rattle.afdx_conform.specs.declared.strangeness.Strangeness.TheVariants.{OutOfTurn, NoArrival}
 use Rattle.afdx_conform.specs.Leeways.{leeway_with}
 use Rattle.afdx_conform.specs.States.{Event, Came, Closing}
 use Rattle.afdx_conform.specs.Streams.{Gone, Terms}

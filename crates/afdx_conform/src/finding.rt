@@ -1,17 +1,7 @@
 //! What a stream shows where its switch did what the rules don't allow.
 
+use crate::strangeness::Strangeness;
 use afdx_police::Reason;
-
-/// What is wrong with a frame that no arrival explains.
-#[derive(Clone, Copy, Debug, PartialEq, Eq)]
-pub enum Strangeness {
-    /// It is too short or too long, or its check sequence is wrong.
-    Damaged(Reason),
-    /// It is of an arrival that the rule accepts: it left before, or the order doesn't allow it.
-    OutOfTurn,
-    /// Nothing came of which it can be.
-    NoArrival,
-}
 
 /// What the switch did with a frame or an arrival, by its number.
 #[derive(Clone, Copy, Debug, PartialEq, Eq)]

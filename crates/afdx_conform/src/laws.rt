@@ -20,6 +20,7 @@ ghost use Rattle.afdx_conform.specs.Standing.{HoldsOneWindow};
 ghost use Rattle.afdx_conform.specs.Sure.{ExactIsSure};
 ghost use Rattle.afdx_conform.specs.Thinned.{KeptAreEnough};
 ghost use Rattle.afdx_conform.specs.Ways.{WayIsNearer};
+ghost use Rattle.afdx_conform.specs.Words.{TheStrangeWords};
 ghost use Rattle.afdx_conform.specs.Worked.{WorkedRows};
 
 /// Once all frames are closed, a state is left exactly where something explains the stream.
@@ -147,4 +148,10 @@ pub fn one_window_is_held()
 /// its switches, whichever arrivals that charged.
 pub fn way_is_nearer()
     ensures { WayIsNearer }
+{}
+
+/// The words of the reasons for a strange frame that aren't of the tables are those of the formats.
+#[tactic(auto, unfolding(crate::specs::Words::own_words))]
+pub fn strange_words_are()
+    ensures { TheStrangeWords }
 {}

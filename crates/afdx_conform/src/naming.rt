@@ -17,12 +17,13 @@ ghost use Rattle.afdx_conform.specs.Streams.{Terms};
 
 use crate::arrived::Arrived;
 use crate::checked_bytes::CheckedBytes;
-use crate::finding::{Finding, Mark, Strangeness};
+use crate::finding::{Finding, Mark};
 use crate::gaps::Gaps;
 use crate::known_bytes::KnownBytes;
 use crate::limits::{LeftFrame, Limits};
 use crate::places::no_less;
 use crate::recorded::StreamRecord;
+use crate::strangeness::Strangeness;
 use afdx_frame::{GREATEST_FRAME, LEAST_FRAME};
 use afdx_police::Reason;
 
@@ -145,7 +146,7 @@ fn strangeness(
         result ≡ strangeness_of z (marked_all arrivals.now marks.now) (gone_of frame.now) }
 {
     match damage(&frame.bytes) {
-        Some(reason) => Strangeness::Damaged(reason),
+        Some(reason) => Strangeness::Shape(reason),
         None => {
             if fits_unmarked(limits, arrivals, marks, settled, places, frame) {
                 Strangeness::OutOfTurn

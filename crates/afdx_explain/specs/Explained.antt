@@ -15,7 +15,7 @@ use Rattle.afdx_admit.specs.declared.cascade_fault.TheConstants.{CASCADE_ADMISSI
 use Rattle.afdx_receive.specs.declared.reception.TheConstants.{DROP_REASONS}
 use Rattle.afdx_send.specs.declared.fault.TheConstants.{SEND_FAULTS}
 use Rattle.afdx_input_sources.specs.declared.skipped.TheConstants.{SKIPPED}
-use Rattle.afdx_text.specs.declared.strange.TheConstants.{STRANGE_REASONS}
+use Rattle.afdx_conform.specs.declared.strangeness.TheConstants.{STRANGE_REASONS}
 use Rattle.afdx_input_lines.specs.declared.fault.TheConstants.{RUN_FAULTS}
 use Rattle.afdx_input_lines.specs.declared.recording_fault.TheConstants.{RECORDING_FAULTS}
 use Rattle.afdx_explain.specs.Forms.{text_among, row_among, formed_row, formed_among}

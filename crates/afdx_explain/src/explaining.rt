@@ -14,13 +14,13 @@ use crate::kinds::KINDS;
 use crate::lines::LINES;
 use afdx_admit::{ADMISSION, CASCADE_ADMISSION};
 use afdx_config::CONFIG_FAULTS;
+use afdx_conform::STRANGE_REASONS;
 use afdx_frame::{IP_FAULTS, MAC_FAULTS};
 use afdx_input_lines::{RECORDING_FAULTS, RUN_FAULTS};
 use afdx_input_sources::SKIPPED;
 use afdx_police::REASONS;
 use afdx_receive::DROP_REASONS;
 use afdx_send::SEND_FAULTS;
-use afdx_text::STRANGE_REASONS;
 
 /// The forms of a line that tells why a switch dropped a frame.
 const SWITCH_FORMS: &[u8] = b"?\nV n A|B drop ?\nV n A|B * drop ?";

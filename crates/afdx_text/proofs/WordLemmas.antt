@@ -14,9 +14,9 @@ use Rattle.afdx_police.specs.contracts.shape.Reason.{the_type}
 use Rattle.afdx_receive.specs.Words.{drop_word, own_words}
 use Rattle.afdx_receive.specs.declared.reception.DropReason.{DropReason}
 use Rattle.afdx_receive.specs.declared.reception.DropReason.TheVariants as drop
-use Rattle.afdx_text.specs.ConformLines.{strange_word, own_words as strange_words}
-use Rattle.afdx_text.specs.declared.strange.StrangeReason.{StrangeReason}
-use Rattle.afdx_text.specs.declared.strange.StrangeReason.TheVariants as strange
+use Rattle.afdx_conform.specs.Words.{strange_word, own_words as strange_words}
+use Rattle.afdx_conform.specs.declared.strangeness.Strangeness.{Strangeness}
+use Rattle.afdx_conform.specs.declared.strangeness.Strangeness.TheVariants as strange
 use denote.Enum.Declared.{tag_of}
 
 abbrev fits : List ℕ → Bool
@@ -65,7 +65,7 @@ drop_fits drop.NoPort = refl
 pub drop_word_short : (why : DropReason) → length (drop_word why) ≤ 15
 drop_word_short why = leb-true _ _ (drop_fits why)
 
-strange_fits : (why : StrangeReason) → leb (length (strange_word why)) 15 ≡ true
+strange_fits : (why : Strangeness) → leb (length (strange_word why)) 15 ≡ true
 unfolding strange_words
 strange_fits (strange.Shape reason) = reason_fits reason
 strange_fits strange.NotItsPort = refl
@@ -73,5 +73,5 @@ strange_fits strange.OutOfTurn = refl
 strange_fits strange.NoArrival = refl
 
 -- at a switch that was recorded
-pub strange_word_short : (why : StrangeReason) → length (strange_word why) ≤ 15
+pub strange_word_short : (why : Strangeness) → length (strange_word why) ≤ 15
 strange_word_short why = leb-true _ _ (strange_fits why)

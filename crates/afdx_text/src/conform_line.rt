@@ -2,14 +2,13 @@
 
 ghost use Rattle.std.specs.Prelude.{◌≡◌, ◌≤◌, ◌+◌, ◌++◌, codes, length, take};
 ghost use Rattle.std.specs.Fmt.{decimal};
-ghost use Rattle.afdx_text.specs.ConformLines.{answer_text, conform_text, found_text};
-ghost use Rattle.afdx_text.specs.ConformLines.{count_text, judged_line};
+ghost use Rattle.afdx_text.specs.ConformLines.{answer_text, conform_text, count_text};
+ghost use Rattle.afdx_text.specs.ConformLines.{finding_text, found_text, judged_line};
 
 use crate::piece::{put, put_number, put_piece, put_small};
 use crate::place::LinePlace;
-use crate::strange::StrangeReason;
+use afdx_conform::Finding;
 use afdx_frame::Side;
-use afdx_police::Reason;
 
 /// Whether a recorded switch did what the rules say.
 #[derive(Clone, Copy, Debug, PartialEq, Eq)]
@@ -22,9 +21,9 @@ pub enum Answer {
     Undecided,
 }
 
-/// What the last line says: the answer; how many frames are explained; how many arrivals there are
-/// whose frames may come later, and how many of which both answers are right; how many lines were
-/// left out; how many streams weren't recorded, and of how many that were nothing was shown.
+/// The answer; the frames that are explained; the arrivals whose frames may come later; those of
+/// which both answers are right; the lines that were left out; the streams that weren't recorded;
+/// those that were and of which nothing was shown.
 #[derive(Clone, Copy, Debug, PartialEq, Eq)]
 pub struct Conclusion {
     pub answer: Answer,
@@ -40,39 +39,13 @@ pub struct Conclusion {
 /// in `strange`, where it is one of LEFT; `port` is the output port.
 #[derive(Clone, Copy, Debug, PartialEq, Eq)]
 pub enum ConformLine {
-    /// The frame of line `n` of LEFT is explained by nothing: `strange n side port WORD`.
-    Strange {
-        n: u64,
+    /// What the switch did with a frame or an arrival: `strange n side port WORD`,
+    /// `passed n side port WORD`, `stopped n side port`, `late n side port by` or
+    /// `early n side port by`.
+    Found {
         side: Side,
         port: u8,
-        why: StrangeReason,
-    },
-    /// The frame left, though its arrival was to be dropped: `passed n side port WORD`.
-    Passed {
-        n: u64,
-        side: Side,
-        port: u8,
-        reason: Reason,
-    },
-    /// The arrival was to pass, and its frame didn't leave: `stopped n side port`.
-    Stopped {
-        n: u64,
-        side: Side,
-        port: u8,
-    },
-    /// Its frame left too late, by so many ns: `late n side port by`.
-    Late {
-        n: u64,
-        side: Side,
-        port: u8,
-        by: u64,
-    },
-    /// Its frame left before it can have gone over the line, by so many ns: `early n side port by`.
-    Early {
-        n: u64,
-        side: Side,
-        port: u8,
-        by: u64,
+        finding: Finding,
     },
     /// From here the stream can be explained in too many ways: `unsure n side port`.
     Unsure {
@@ -157,63 +130,75 @@ fn put_answer(room: &mut [u8], at: usize, answer: Answer) -> usize
     }
 }
 
+/// Puts the line of a finding at an output port of a side.
+#[inline(never)]
+#[tactic(auto, using(crate::proofs::WordLemmas::reason_word_short, crate::proofs::WordLemmas::strange_word_short))]
+fn put_finding(room: &mut [u8], at: usize, side: Side, port: u8, finding: Finding) -> usize
+    requires { at + 128 ≤ length room.old }
+    ensures within { result ≤ at + 128 }
+    ensures text { take result room.new
+        ≡ take at room.old ++ finding_text side port finding }
+{
+    match finding {
+        Finding::Strange(n, why) => {
+            let at = put_found(room, at, b"strange ", n, side, port);
+            put_word(room, at, why.word())
+        }
+        Finding::Passed(n, reason) => {
+            let at = put_found(room, at, b"passed ", n, side, port);
+            put_word(room, at, reason.word())
+        }
+        Finding::Stopped(n) => {
+            let at = put_found(room, at, b"stopped ", n, side, port);
+            put(room, at, b"\n")
+        }
+        Finding::Late(n, by) => {
+            let at = put_found(room, at, b"late ", n, side, port);
+            put_by(room, at, by)
+        }
+        Finding::Early(n, by) => {
+            let at = put_found(room, at, b"early ", n, side, port);
+            put_by(room, at, by)
+        }
+    }
+}
+
 /// `VERDICT explained N open K uncertain U left-out L unseen W idle I`.
 #[inline(never)]
-fn put_judged(room: &mut [u8], at: usize, last: Conclusion) -> usize
+fn put_judged(room: &mut [u8], at: usize, judged: Conclusion) -> usize
     requires { at + 256 ≤ length room.old }
     ensures within { result ≤ at + 256 }
-    ensures text { take result room.new ≡ take at room.old ++ judged_line last }
+    ensures text { take result room.new ≡ take at room.old ++ judged_line judged }
 {
-    let at = put_answer(room, at, last.answer);
-    let at = put_count(room, at, b" explained ", last.explained);
-    let at = put_count(room, at, b" open ", last.waiting);
-    let at = put_count(room, at, b" uncertain ", last.uncertain);
-    let at = put_count(room, at, b" left-out ", last.left_out);
-    let at = put_count(room, at, b" unseen ", last.unseen);
-    let at = put_count(room, at, b" idle ", last.idle);
+    let at = put_answer(room, at, judged.answer);
+    let at = put_count(room, at, b" explained ", judged.explained);
+    let at = put_count(room, at, b" open ", judged.waiting);
+    let at = put_count(room, at, b" uncertain ", judged.uncertain);
+    let at = put_count(room, at, b" left-out ", judged.left_out);
+    let at = put_count(room, at, b" unseen ", judged.unseen);
+    let at = put_count(room, at, b" idle ", judged.idle);
     put(room, at, b"\n")
 }
 
 impl ConformLine {
     /// Puts the line at a place of the room, and tells where it ends.
     #[inline(never)]
-    #[tactic(auto, using(crate::proofs::WordLemmas::reason_word_short, crate::proofs::WordLemmas::strange_word_short))]
     pub(crate) fn put_at(self, room: &mut [u8], at: usize) -> usize
         requires { at + 256 ≤ length room.old }
         ensures within { result ≤ at + 256 }
         ensures text { take result room.new ≡ take at room.old ++ conform_text self }
     {
         match self {
-            ConformLine::Strange { n, side, port, why } => {
-                let at = put_found(room, at, b"strange ", n, side, port);
-                put_word(room, at, why.word())
-            }
-            ConformLine::Passed {
-                n,
+            ConformLine::Found {
                 side,
                 port,
-                reason,
-            } => {
-                let at = put_found(room, at, b"passed ", n, side, port);
-                put_word(room, at, reason.word())
-            }
-            ConformLine::Stopped { n, side, port } => {
-                let at = put_found(room, at, b"stopped ", n, side, port);
-                put(room, at, b"\n")
-            }
-            ConformLine::Late { n, side, port, by } => {
-                let at = put_found(room, at, b"late ", n, side, port);
-                put_by(room, at, by)
-            }
-            ConformLine::Early { n, side, port, by } => {
-                let at = put_found(room, at, b"early ", n, side, port);
-                put_by(room, at, by)
-            }
+                finding,
+            } => put_finding(room, at, side, port, finding),
             ConformLine::Unsure { n, side, port } => {
                 let at = put_found(room, at, b"unsure ", n, side, port);
                 put(room, at, b"\n")
             }
-            ConformLine::Judged(last) => put_judged(room, at, last),
+            ConformLine::Judged(judged) => put_judged(room, at, judged),
         }
     }
 }

@@ -5,6 +5,7 @@ use afdx_config::{
     CASCADE_KEYS, CONFIG_FAULTS, Key, LINK_KEYS, NEIGHBOUR_KEYS, PORT_KEYS, SWITCH_KEYS,
     SYSTEM_KEYS, TOP_KEYS, UNKNOWN_KEYS, WIDER_KEYS,
 };
+use afdx_conform::STRANGE_REASONS;
 use afdx_explain::{CONFORM_LINES, FAULTS, LINES};
 use afdx_frame::{IP_FAULTS, MAC_FAULTS};
 use afdx_input_lines::{RECORDING_FAULTS, RUN_FAULTS};
@@ -12,7 +13,6 @@ use afdx_input_sources::SKIPPED;
 use afdx_police::REASONS;
 use afdx_receive::DROP_REASONS;
 use afdx_send::SEND_FAULTS;
-use afdx_text::STRANGE_REASONS;
 use std::io;
 
 /// What takes the rows of the lists.

@@ -14,7 +14,7 @@ returns-clause-stands c z xs ys j time moment none due lt s =
       told-found z k moment c.in_ok-found.found.items j r.0 (due_of c.decide.new.self)
           c.unsure_behind.result c.in_ok-lines.lines.items all.items r.2 (c.unsure_behind.ensures.stands z xs ys r.0
           time r.1)
-          (c.in_ok-lines.ensures ∙ ap (λ l. map (found_line k.side k.port) l) c.as_slice.ensures.value) e,
+          (c.in_ok-lines.ensures ∙ ap (λ l. map (found_line k) l) c.as_slice.ensures.value) e,
       r.2.later,
     ))
     c.with_unsure.result c.with_unsure.ensures
@@ -28,7 +28,7 @@ returns-clause-ends c z xs ys j moment end due s =
       r.1,
       told-found z k moment c.in_ok-found.found.items j r.0 (due_of c.decide.new.self)
           c.unsure_behind.result c.in_ok-lines.lines.items all.items r.2 (c.unsure_behind.ensures.ends z xs ys r.0 r.1)
-          (c.in_ok-lines.ensures ∙ ap (λ l. map (found_line k.side k.port) l) c.as_slice.ensures.value) e,
+          (c.in_ok-lines.ensures ∙ ap (λ l. map (found_line k) l) c.as_slice.ensures.value) e,
       r.2.later,
     ))
     c.with_unsure.result c.with_unsure.ensures

@@ -6,14 +6,14 @@ use Rattle.afdx_config.specs.Rows.{LinkRow, Rows}
 use Rattle.afdx_police.specs.Arrival.{Arrival, arrival_with}
 use Rattle.afdx_police.specs.Shape.{fault_of}
 use Rattle.afdx_input_lines.specs.declared.role.Role.TheVariants.{Left}
-use Rattle.afdx_text.specs.declared.conform_line.ConformLine.TheVariants.{Strange}
+use Rattle.afdx_conform.specs.declared.finding.Finding.TheVariants.{Strange}
 use Rattle.afdx_frame.specs.Parts.{bytes_of}
 use Rattle.afdx_command_conform.specs.Choices.{counts}
 use Rattle.afdx_command_conform.specs.Tapped.{Taps, is_heard, is_judged}
 use Rattle.afdx_command_conform.specs.Frames.{frame_with, gone_of, is_stranger, place_named}
 use Rattle.afdx_command_conform.specs.Keeping.{AreKept, given_of, with_left, with_strange}
 use Rattle.afdx_command_conform.specs.Keys.{key_with}
-use Rattle.afdx_command_conform.specs.Lines.{due_at, stranger_by, stranger_reason}
+use Rattle.afdx_command_conform.specs.Lines.{due_at, found_line, stranger_by, stranger_reason}
 use Rattle.afdx_command_conform.specs.Standing.{StreamsStand, streams_with}
 use Rattle.afdx_command_conform.specs.declared.key.Key.{Key}
 use Rattle.afdx_command_conform.proofs.AddedLemmas.{on-ok}
@@ -127,10 +127,10 @@ returns-clause-stands c t c' until time frames lines named-is e le behind few ru
           (join-strange r c' until None time frames lines c.leave_strange.new.kept mine.lawful a (subst (λ
           (x : Rows). counts x c' (frame_with Left a) ≡ true) (sym stand.tables) e) strange all old.falling
           (subst (λ w. AreKept r c' until None time (with_strange key (due_at key h.time
-          (Strange c.args.n h.side h.port w)) (given_of r c' frames))
+          (found_line key (Strange c.args.n w))) (given_of r c' frames))
           lines c.leave_strange.new.kept) why k));
     })) c.leave_strange.result
     (c.leave_strange.ensures r c' until time (given_of r c' frames) lines mine.lawful le
-    (falling-more (due_at key h.time (Strange c.args.n h.side h.port c.why_strange-why.result))
+    (falling-more (due_at key h.time (found_line key (Strange c.args.n c.why_strange-why.result)))
     (given_of r c' frames key).strange
     (strange-times r c' frames h.time all key) (old.falling key)) old)
