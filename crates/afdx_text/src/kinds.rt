@@ -96,18 +96,18 @@ pub(crate) fn put_verdict(
     room: &mut [u8],
     at: usize,
     n: u64,
-    site: &Site<'_>,
+    site: Site<'_>,
     reason: Option<Reason>,
 ) -> usize
-    requires { at + 128 + length site.now.switch.now ≤ length room.old }
-    ensures within { result ≤ at + 128 + length site.now.switch.now }
+    requires { at + 128 + length site.switch.now ≤ length room.old }
+    ensures within { result ≤ at + 128 + length site.entry.switch.now }
     ensures text { take result room.new
-        ≡ take at room.old ++ verdict_line n (site_text site.now) reason }
+        ≡ take at room.old ++ verdict_line n (site_text site.entry) reason }
 {
     if site.switch.is_empty() {
         put_verdict_at(room, at, n, site.side, reason)
     } else {
-        put_verdict_at(room, at, n, *site, reason)
+        put_verdict_at(room, at, n, site, reason)
     }
 }
 
@@ -129,16 +129,16 @@ fn put_loss_at<P: LinePlace>(room: &mut [u8], at: usize, n: u64, place: P, port:
 
 /// `L n site port`.
 #[inline(always)]
-pub(crate) fn put_loss(room: &mut [u8], at: usize, n: u64, site: &Site<'_>, port: u8) -> usize
-    requires { at + 128 + length site.now.switch.now ≤ length room.old }
-    ensures within { result ≤ at + 128 + length site.now.switch.now }
+pub(crate) fn put_loss(room: &mut [u8], at: usize, n: u64, site: Site<'_>, port: u8) -> usize
+    requires { at + 128 + length site.switch.now ≤ length room.old }
+    ensures within { result ≤ at + 128 + length site.entry.switch.now }
     ensures text { take result room.new
-        ≡ take at room.old ++ loss_line n (site_text site.now) port }
+        ≡ take at room.old ++ loss_line n (site_text site.entry) port }
 {
     if site.switch.is_empty() {
         put_loss_at(room, at, n, site.side, port)
     } else {
-        put_loss_at(room, at, n, *site, port)
+        put_loss_at(room, at, n, site, port)
     }
 }
 
@@ -262,21 +262,21 @@ impl LastNumbers {
         room: &mut [u8],
         at: usize,
         of: (u64, u64),
-        site: &Site<'_>,
+        site: Site<'_>,
         port: u8,
         too_old: bool,
     ) -> usize
-        requires { at + 128 + length site.now.switch.now ≤ length room.old }
-        ensures within { result ≤ at + 128 + length site.now.switch.now }
+        requires { at + 128 + length site.switch.now ≤ length room.old }
+        ensures within { result ≤ at + 128 + length site.entry.switch.now }
         ensures text { take result room.new
-            ≡ take at room.old ++ departure_line too_old of.0 of.1 (site_text site.now) port }
+            ≡ take at room.old ++ departure_line too_old of.0 of.1 (site_text site.entry) port }
     {
         self.n.set(of.0);
         self.time.set(of.1);
         if site.switch.is_empty() {
             self.put_left(room, at, site.side, port, too_old)
         } else {
-            self.put_left(room, at, *site, port, too_old)
+            self.put_left(room, at, site, port, too_old)
         }
     }
 
@@ -356,19 +356,19 @@ impl LastNumbers {
         room: &mut [u8],
         at: usize,
         kind: FrameKind,
-        site: &Site<'_>,
+        site: Site<'_>,
         port: u8,
         bytes: &[u8],
     ) -> usize
-        requires { at + 128 + length site.now.switch.now + 2 * length bytes.now ≤ length room.old }
-        ensures within { result ≤ at + 128 + length site.now.switch.now + 2 * length bytes.now }
+        requires { at + 128 + length site.switch.now + 2 * length bytes.now ≤ length room.old }
+        ensures within { result ≤ at + 128 + length site.entry.switch.now + 2 * length bytes.now }
         ensures text { take result room.new ≡ take at room.old
-            ++ frame_line kind (site_text site.now) port self.now.time.number bytes.now }
+            ++ frame_line kind (site_text site.entry) port self.now.time.number bytes.now }
     {
         if site.switch.is_empty() {
             self.put_listed_at(room, at, kind, site.side, port, bytes)
         } else {
-            self.put_listed_at(room, at, kind, *site, port, bytes)
+            self.put_listed_at(room, at, kind, site, port, bytes)
         }
     }
 }

@@ -129,15 +129,15 @@ impl OutLine<'_> {
         ensures text { take result room.new ≡ take at room.old ++ line_text self.now }
     {
         match self {
-            OutLine::Verdict { n, site, reason } => put_verdict(room, at, *n, site, *reason),
-            OutLine::Lost { n, site, port } => put_loss(room, at, *n, site, *port),
+            OutLine::Verdict { n, site, reason } => put_verdict(room, at, *n, *site, *reason),
+            OutLine::Lost { n, site, port } => put_loss(room, at, *n, *site, *port),
             OutLine::Left {
                 n,
                 time,
                 site,
                 port,
                 too_old,
-            } => kept.put_departure(room, at, (*n, *time), site, *port, *too_old),
+            } => kept.put_departure(room, at, (*n, *time), *site, *port, *too_old),
             OutLine::Message {
                 time,
                 system,
@@ -158,7 +158,7 @@ impl OutLine<'_> {
                 bytes,
             } => {
                 kept.set_time(*time);
-                kept.put_listed(room, at, *kind, site, *port, bytes)
+                kept.put_listed(room, at, *kind, *site, *port, bytes)
             }
             OutLine::Remark { word, n } => put_remark(room, at, word, *n),
             OutLine::Refused { n, word } => put_refusal(room, at, *n, word),
