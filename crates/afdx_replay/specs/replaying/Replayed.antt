@@ -121,5 +121,9 @@ module _ {D : Type 0} where
   TellsMore t replay old new events =
       ToldMore t replay.network replay.systems replay.counts old new events
 
+  abbrev pub TellsArrivals : Rows → Replay D → Known → Known → List Arrival → Type 0
+  TellsArrivals t replay old new past =
+      AreTold t replay.network replay.systems replay.counts old new past
+
   abbrev pub HasRoomFor : Replay D → ℕ → Type 0
   HasRoomFor replay n = HasRoom replay.counts (network.frames_held replay.network) n

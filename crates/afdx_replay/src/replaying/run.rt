@@ -27,6 +27,7 @@ use afdx_end_systems::Systems;
 use afdx_input_lines::{Heading, RunFault, Watched};
 use afdx_input_sources::{FrameLines, Machine, run_list};
 use afdx_network::Network;
+use afdx_police::Reason;
 use afdx_text::{AtOnce, Sink, Site, Text};
 use std::alloc::{AllocError, Global};
 use std::io::{Read, Stderr, Write};
@@ -53,7 +54,14 @@ impl<D: Drop> Drop for Replay<D> {
 }
 
 impl<D: Write> Replay<D> {
-    ghost use Rattle.afdx_replay.specs.replaying.Replayed.{Tells, TellsMore, HasRoomFor};
+    ghost use Rattle.afdx_replay.specs.replaying.Replayed.{Tells, TellsArrivals, TellsMore, HasRoomFor};
+    ghost use Rattle.std.specs.Prelude.{◌∷◌, ◌<◌, ◌⊎◌};
+    ghost use Rattle.afdx_frame.specs.Times.{latest_listed};
+    ghost use Rattle.afdx_frame.specs.Seals.{IsSealedAs};
+    ghost use Rattle.afdx_input_lines.specs.FrameLines.{listed_frame};
+    ghost use Rattle.afdx_input_sources.specs.Listed.{arrival_at};
+    ghost use Rattle.afdx_police.specs.Arrival.{Arrival};
+    ghost use Rattle.afdx_switch.specs.Verdicts.{reason_of as reason_after};
     ghost use Rattle.afdx_replay.specs.replaying.Told.{TellsItems};
 
     /// It has told nothing yet, and tells nobody of frames that came too early.
@@ -106,6 +114,48 @@ impl<D: Write> Replay<D> {
         }
         Ok(())
     }
+
+    /// Tells what leaves before an arrival, and then what became of it. Answers why it was dropped,
+    /// if it was.
+    pub(crate) fn tell_arrival<O: Sink>(
+        &mut self,
+        n: u64,
+        heading: &Heading,
+        message: &[u8],
+        output: &mut O,
+    ) -> Result<Option<Reason>, RunFault>
+        requires limit { heading.now.time ≤ latest_listed }
+        requires known { IsSealedAs heading.now.seal message.now }
+        requires clock { network.IsUntil self.old.network heading.now.time }
+        requires room { (m : ℕ) × (m < most_frames) × HasRoomFor self.old m }
+        requires sound { O.failed output.old ≡ false }
+        ensures failed { O.failed output.new ≡ is_failed_write result }
+        ensures fault { IfErr result IsOfOutput }
+        ensures settings { O.settings output.new ≡ O.settings output.old }
+        ensures early { self.new.early ≡ self.old.early }
+        ensures clock { OnOk result (network.IsUntil self.new.network heading.now.time) }
+        ensures room { (m : ℕ) → HasRoomFor self.old m → OnOk result (HasRoomFor self.new (m + 1)) }
+        ensures told { (t : Rows) (start : Option (List ℕ)) (past : List Arrival) →
+            TellsArrivals t self.old start (O.written output.old) past →
+            OnOk result (TellsArrivals t self.new start (O.written output.new)
+            (arrival_at n (listed_frame heading.now message.now) ∷ past)) }
+        ensures some { (t : Rows) (start : Option (List ℕ)) (past : List Arrival) →
+            TellsArrivals t self.old start (O.written output.old) past →
+            OnErr result (WritesSome t start (O.written output.new) past
+            ⊎ WritesSome t start (O.written output.new)
+            (arrival_at n (listed_frame heading.now message.now) ∷ past)) }
+        ensures reason { (t : Rows) (start : Option (List ℕ)) (past : List Arrival) →
+            TellsArrivals t self.old start (O.written output.old) past →
+            IfOk result (λ reason. reason ≡ reason_after t past
+            (arrival_at n (listed_frame heading.now message.now))) }
+    {
+        self.tell_departures(heading.time, output)?;
+        let (side, time, port) = (heading.side, heading.time, heading.port);
+        let frame = heading.frame(message);
+        let verdict = self.network.arrive(side, time, port, n, frame)?;
+        let reason = tell_verdict(&mut self.counts, n, Site::on(side), &verdict, output)?;
+        Ok(reason)
+    }
 }
 
 impl<D: Write> Machine<Heading> for Replay<D> {
@@ -128,11 +178,7 @@ impl<D: Write> Machine<Heading> for Replay<D> {
         message: &[u8],
         output: &mut O,
     ) -> Result<(), RunFault> {
-        self.tell_departures(heading.time, output)?;
-        let (side, time, port) = (heading.side, heading.time, heading.port);
-        let frame = heading.frame(message);
-        let verdict = self.network.arrive(side, time, port, n, frame)?;
-        let reason = tell_verdict(&mut self.counts, n, Site::on(side), &verdict, output)?;
+        let reason = self.tell_arrival(n, heading, message, output)?;
         explain(&mut self.early, &self.network, n, heading, message, reason);
         Ok(())
     }
