@@ -128,9 +128,10 @@ fn judge_one(
     let count = Count::new(rt, told);
     let mut input = Watched::new(Traced::new(Counted::new(&count, input)));
     let mut errors = Watched::new(WatchedWriter::new(Cleared::new(rt, told, error_lines(rt))));
+    let switch = switch_in(matches);
     let question = Question {
         config,
-        switch: switch_in(matches),
+        switch,
         choices: &choices,
     };
     let (ins, outs, faults) = (&mut input, &mut output, &mut errors);
@@ -186,9 +187,10 @@ fn judge_two(
         left: Watched::new(Peeked::new(Traced::new(Counted::new(&count, inputs.left)))),
     };
     let mut errors = Watched::new(WatchedWriter::new(Cleared::new(rt, told, error_lines(rt))));
+    let switch = switch_in(matches);
     let question = Question {
         config,
-        switch: switch_in(matches),
+        switch,
         choices: &choices,
     };
     let (ins, outs, faults) = (&mut inputs, &mut output, &mut errors);

@@ -207,11 +207,12 @@ fn run_over<P: Placing + Drop, A: Recordings<P>, O: Sink, E: Write>(
     match run {
         Run::Police(rule) => { police_input(rt.alloc(), options, rule, input, lines, faults) }
         Run::Replay(replaying) => {
+            let early = early_lines(rt, replaying.options.explains_drops);
             let settings = ReplaySettings {
                 config: replaying.config,
                 admission: replaying.options.admission,
                 options,
-                early: early_lines(rt, replaying.options.explains_drops),
+                early,
             };
             let ended = replay_input(rt.alloc(), settings, input, lines, faults);
             ended.0

@@ -20,9 +20,10 @@ fn conformed(alloc: Global, came: &str, left: &str) -> Result<(u8, ShortText), F
     };
     let mut output = Output::new(alloc, 0, Vec::new(alloc))?;
     let mut errors = Watched::new(Vec::new(alloc));
+    let (config, switch) = (base().as_bytes(), None);
     let question = Question {
-        config: base().as_bytes(),
-        switch: None,
+        config,
+        switch,
         choices: &choices,
     };
     let (ins, outs, faults) = (&mut inputs, &mut output, &mut errors);
