@@ -9,6 +9,15 @@ use afdx_text::Output;
 use std::alloc::Global;
 use std::test::Fail;
 
+/// What is asked of the base tables.
+fn of_base<'a>(switch: Option<&'a str>, choices: &'a Choices) -> Question<'a> {
+    Question {
+        config: base().as_bytes(),
+        switch,
+        choices,
+    }
+}
+
 /// The status, and what is written, of the base tables and these lists.
 fn conformed(alloc: Global, came: &str, left: &str) -> Result<(u8, ShortText), Fail> {
     let leeway = Leeway::new(0, 0, 0, 0, None).ok_or("a leeway")?;
@@ -20,12 +29,7 @@ fn conformed(alloc: Global, came: &str, left: &str) -> Result<(u8, ShortText), F
     };
     let mut output = Output::new(alloc, 0, Vec::new(alloc))?;
     let mut errors = Watched::new(Vec::new(alloc));
-    let (config, switch) = (base().as_bytes(), None);
-    let question = Question {
-        config,
-        switch,
-        choices: &choices,
-    };
+    let question = of_base(None, &choices);
     let (ins, outs, faults) = (&mut inputs, &mut output, &mut errors);
     let judged = conform(alloc, question, AsLists, ins, outs, faults);
     let text = short_text(output.into_device().as_slice())?;
