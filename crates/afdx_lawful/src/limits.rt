@@ -12,8 +12,8 @@ use afdx_police::LinkRule;
 /// The parts of the whole in which drift is told.
 const PARTS: u64 = 1_000_000;
 
-/// The greatest skew of a link, in ns.
-const GREATEST_SKEW: u64 = 100_000_000;
+/// The greatest skew of a link, and the greatest distance of copies that can be given, in ns.
+pub(crate) const GREATEST_SKEW: u64 = 100_000_000;
 
 /// What a source's frames are held against.
 ///

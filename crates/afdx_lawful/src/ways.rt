@@ -3,10 +3,7 @@
 ghost use Rattle.std.specs.Prelude.{◌≡◌, ◌≤◌};
 ghost use Rattle.afdx_lawful.specs.Ranges.{IsWayInRange, given_ns, most_apart};
 
-use crate::limits::SenderLimits;
-
-/// The greatest skew of a link, and the greatest distance that can be given, in ns.
-const GREATEST_SKEW: u64 = 100_000_000;
+use crate::limits::{GREATEST_SKEW, SenderLimits};
 
 /// The longest time that a byte can take over the lines of a way, in ns: 24 lines of 10 Mbit/s.
 const LONGEST_BYTE: u64 = 19_200;
