@@ -18,7 +18,7 @@ use Rattle.afdx_network.specs.declared.network.Network.{Network}
 use Rattle.afdx_network.proofs.OrderLemmas.{below_first, below_next}
 use Rattle.afdx_cascade.specs.Cables.{brought}
 use Rattle.afdx_cascade.specs.Cascade.{StandsFor, IsUntil, IsQuiet, IsUnchanged, AreFrom}
-use Rattle.afdx_cascade.specs.Cascade.{GivesNext, GivesNone, ArrivesNext, IsToCome}
+use Rattle.afdx_cascade.specs.Cascade.{GivesNext, GivesNone, ArrivesNext, IsToCome, TellsEvent}
 use Rattle.afdx_cascade.specs.Due.{OnCable, IsRing, turn_event}
 use Rattle.afdx_cascade.specs.Found.{AllStand}
 use Rattle.afdx_cascade.specs.Keeping.{Keeps, BringsNext, TurnsNext, IsNothingDue}
@@ -28,12 +28,12 @@ use Rattle.afdx_cascade.specs.Plans.{plan_of, tables_of}
 use Rattle.afdx_cascade.specs.Runs.{Line, IsBeforeLine, arriving, event_at, turn_phase}
 use Rattle.afdx_cascade.specs.Standing.{Stands}
 use Rattle.afdx_cascade.specs.SwitchEvents.{Plan, SwitchEvent, came_to}
-use Rattle.afdx_cascade.specs.Turning.{AreEnds, AreInTransit}
+use Rattle.afdx_cascade.specs.Turning.{AreEnds, AreInTransit, IsSent, TellsTurn}
 use Rattle.afdx_cascade.specs.declared.cable.InTransit.{InTransit}
 use Rattle.afdx_cascade.specs.declared.cascade.Cascade.{Cascade}
 use Rattle.afdx_cascade.specs.declared.told.Brought.{Brought}
-use Rattle.afdx_cascade.specs.declared.told.Happened.TheVariants.{Over, Came}
-use Rattle.afdx_cascade.specs.declared.told.Turned.{Turned}
+use Rattle.afdx_cascade.specs.declared.told.Happened.{Happened}
+use Rattle.afdx_cascade.specs.declared.told.Happened.TheVariants.{Ended, Carried, Came}
 use Rattle.afdx_cascade.proofs.FrontLemmas.{due-later, line-keeps, start-keeps}
 use Rattle.afdx_cascade.proofs.InsideLemmas.{all-inside}
 use Rattle.afdx_cascade.proofs.NextLemmas.{until-more}
@@ -44,6 +44,14 @@ some-of o P x e h = subst (λ z. IfSome z P) e h
 
 pub none-of : {X : Type 0} (o : Option X) (P : Type 0) → o ≡ None → IfNone o P → P
 none-of o P e h = subst (λ z. IfNone z P) e h
+
+-- what is told of a turn is told of its event
+turn-tells : (c : Plan) (so_far : List SwitchEvent) (k : ℕ) (value : Happened) (d : Departure)
+    → TellsTurn c k value d → TellsEvent c so_far value (event_at k (Left d))
+turn-tells c so_far k (Ended at v) d tells = (d, ap (λ j. event_at j (Left d)) (sym tells.0), tells.1)
+turn-tells c so_far k (Carried at s) d tells =
+    (d, ap (λ j. event_at j (Left d)) (sym tells.0), subst (λ j. IsSent c j s d) (sym tells.0) tells.1)
+turn-tells c so_far k (Came b) d tells = absurd tells
 
 -- ---- before the list's next frame
 
@@ -197,16 +205,16 @@ module _ (c : Plan) (so_far : List SwitchEvent) (w new : Cascade) (until : ℕ)
     }
 
   -- a turn is over
-  module _ (k : ℕ) (value : Turned)
+  module _ (k : ℕ) (value : Happened)
       (next : TurnsNext c new.networks.items new.transit.items until so_far k value) where
-    pub over-next : GivesNext c new until so_far (Over k value)
+    pub over-next : GivesNext c new until so_far value
     over-next = record {
       event = event_at k (Left next.is.departure);
       next = λ lines from. next.is.next lines
           (turn-line next.is.departure.turn.end until next.is.departure.turn.too_old
           (side_number next.is.departure.side ∷ k ∷ next.is.departure.port ∷ []) lines
           (let given = next.is.given in let soon = next.in_time in omega (arith, given, soon)) from);
-      tells = (next.is.departure, refl, next.is.tells);
+      tells = turn-tells c so_far k value next.is.departure next.is.tells;
       stands = record {
         count = size ∙ st.count;
         some = st.some;

@@ -27,7 +27,7 @@ use Rattle.afdx_cascade.specs.Turning.{TurnsAt}
 use Rattle.afdx_cascade.specs.Keeping.{Keeps, TurnKeeps, TurnIsNext}
 use Rattle.afdx_cascade.specs.declared.scan.FirstTurn.{FirstTurn}
 use Rattle.afdx_cascade.specs.declared.cable.InTransit.{InTransit}
-use Rattle.afdx_cascade.specs.declared.told.Turned.{Turned}
+use Rattle.afdx_cascade.specs.declared.told.Happened.{Happened}
 use Rattle.afdx_cascade.proofs.BehindLemmas.{joins-behind, turn-behind}
 use Rattle.afdx_cascade.proofs.ComesLemmas.{scan-comes}
 use Rattle.afdx_cascade.proofs.RingLemmas.{turn-next, turn-next-first}
@@ -38,7 +38,7 @@ use Rattle.afdx_cascade.proofs.LaterLemmas.{given-later, at-end, restamp, was-ne
 
 module _ (c : Plan) (so_far : List SwitchEvent) (old networks : List Network)
     (transit : List InTransit)
-    (time until : ℕ) (ring : List OnCable) (f : FirstTurn) (value : Turned)
+    (time until : ℕ) (ring : List OnCable) (f : FirstTurn) (value : Happened)
     (keeps : Keeps c old time ring so_far)
     (is_first : IsFirstFrom 0 old (Some f)) (small : f.order < order_without_turn)
     (early : (ring ≡ []) ⊎ (f.order ≤ 2 * time)) (low : f.order ≤ 2 * until) (high : 2 * until

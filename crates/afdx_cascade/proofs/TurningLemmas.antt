@@ -1,5 +1,5 @@
 -- A turn, after which its frame may be on a cable.
-use Rattle.std.proofs.Common.{◌≡◌, ℕ, false, List, [], ◌∷◌, ◌++◌, sym, subst, ap, ◌∙◌, inl, inr}
+use Rattle.std.proofs.Common.{◌≡◌, ℕ, false, List, [], ◌∷◌, ◌++◌, refl, sym, subst, ap, ◌∙◌, inl, inr}
 use Rattle.std.proofs.Common.{arith, ◌≤◌}
 use Rattle.std.specs.Prelude.{Some, Result, Ok, Err, OnErr, drop, slice_get, slice_index_or}
 use Rattle.afdx_switch.specs.Departures.{as_given}
@@ -11,7 +11,7 @@ use Rattle.afdx_cascade.specs.Standing.{IsLast}
 use Rattle.afdx_cascade.specs.Turning.{GivesAt, IsInTransit, AreInTransit, IsSent, TurnsAt}
 use Rattle.afdx_cascade.specs.declared.cable.InTransit.{InTransit}
 use Rattle.afdx_cascade.specs.declared.told.Sent.{Sent}
-use Rattle.afdx_cascade.specs.declared.told.Turned.TheVariants.{Ended, Carried}
+use Rattle.afdx_cascade.specs.declared.told.Happened.TheVariants.{Ended, Carried}
 
 pub transit-pushed : (c : Plan) (transit : List InTransit) (ring : List OnCable) (v : InTransit)
     (r : OnCable)
@@ -35,11 +35,11 @@ module _ (c : Plan) (networks : List Network) (transit : List InTransit) (time :
   not-last to young soon joined (inr (inr late)) = omega (arith, soon, late)
 
   pub turns-ended : IsLast c k g.departure
-      → TurnsAt c networks transit time ring so_far k until (Ended value)
+      → TurnsAt c networks transit time ring so_far k until (Ended k value)
   turns-ended silent = record {
     departure = g.departure;
     in_time = g.in_time;
-    tells = g.hands;
+    tells = (refl, g.hands);
     new = g.new;
     stands = g.stands;
     next = g.next;
@@ -52,11 +52,11 @@ module _ (c : Plan) (networks : List Network) (transit : List InTransit) (time :
       → v.departed ≡ value
       → g.departure.turn.too_old ≡ false → g.departure.turn.end ≤ 1000032768000000
       → c.far_end k g.departure.port ≡ Some (end_at v.switch v.port)
-      → grown ≡ transit ++ v ∷ [] → TurnsAt c networks grown time ring so_far k until (Carried s)
+      → grown ≡ transit ++ v ∷ [] → TurnsAt c networks grown time ring so_far k until (Carried k s)
   turns-carried s v grown sent own young soon joined is = record {
     departure = g.departure;
     in_time = g.in_time;
-    tells = sent;
+    tells = (refl, sent);
     new = g.new;
     stands = g.stands;
     next = g.next;

@@ -16,11 +16,11 @@ use Rattle.afdx_cascade.specs.Keys.{AreKeys, IsLeast}
 use Rattle.afdx_cascade.specs.Runs.{Line, IsDue, IsFirstDue, IsNextLine, arriving, event_at}
 use Rattle.afdx_cascade.specs.Scan.{switches_most}
 use Rattle.afdx_cascade.specs.SwitchEvents.{Plan, SwitchEvent, HaveBroughtAll, IsInPlan, came_to}
-use Rattle.afdx_cascade.specs.Turning.{AreEnds, AreInTransit, TellsTurn, WasEarlyBy}
+use Rattle.afdx_cascade.specs.Turning.{AreEnds, AreInTransit, IsSent, WasEarlyBy}
 use Rattle.afdx_cascade.specs.declared.cascade.Cascade.{Cascade}
 use Rattle.afdx_cascade.specs.declared.told.Brought.{Brought}
 use Rattle.afdx_cascade.specs.declared.told.Happened.{Happened}
-use Rattle.afdx_cascade.specs.declared.told.Happened.TheVariants.{Over, Came}
+use Rattle.afdx_cascade.specs.declared.told.Happened.TheVariants.{Ended, Carried, Came}
 
 -- how many switches a side has
 abbrev pub switch_count : Cascade → ℕ
@@ -90,8 +90,9 @@ pub record TellsArrival (c : Plan) (so_far : List SwitchEvent) (b : Brought) (h 
 
 -- what is told is the event
 abbrev pub TellsEvent : Plan → List SwitchEvent → Happened → SwitchEvent → Type 0
-TellsEvent c so_far (Over k turned) h =
-    (d : Departure) × (h ≡ event_at k (Left d)) × TellsTurn c k turned d
+TellsEvent c so_far (Ended k value) h =
+    (d : Departure) × (h ≡ event_at k (Left d)) × network.Hands value d
+TellsEvent c so_far (Carried k s) h = (d : Departure) × (h ≡ event_at k (Left d)) × IsSent c k s d
 TellsEvent c so_far (Came b) h = TellsArrival c so_far b h
 
 -- an event is told: the next one of each list whose next frame comes at `until` or later

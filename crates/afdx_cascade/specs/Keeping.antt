@@ -24,7 +24,7 @@ use Rattle.afdx_cascade.specs.Turning.{AreInTransit, IsInTransit, ArrivesAt, Can
 use Rattle.afdx_cascade.specs.declared.scan.FirstTurn.{FirstTurn}
 use Rattle.afdx_cascade.specs.declared.told.Brought.{Brought}
 use Rattle.afdx_cascade.specs.declared.cable.InTransit.{InTransit}
-use Rattle.afdx_cascade.specs.declared.told.Turned.{Turned}
+use Rattle.afdx_cascade.specs.declared.told.Happened.{Happened}
 
 -- they stand for the events, none of which was given after this time
 pub record Keeps (c : Plan) (networks : List Network) (time : ℕ) (ring : List OnCable)
@@ -45,7 +45,7 @@ pub record Keeps (c : Plan) (networks : List Network) (time : ℕ) (ring : List 
 
 -- a turn is over: it is the next event, and they keep to it too
 pub record TurnIsNext (c : Plan) (networks : List Network) (transit : List InTransit) (until : ℕ)
-    (so_far : List SwitchEvent) (k : ℕ) (value : Turned) : Type 0 where
+    (so_far : List SwitchEvent) (k : ℕ) (value : Happened) : Type 0 where
   pub departure : Departure
   pub tells : TellsTurn c k value departure
   pub next : (lines : List Line) →
@@ -62,7 +62,7 @@ pub record TurnIsNext (c : Plan) (networks : List Network) (transit : List InTra
 abbrev pub TurnKeeps : Type 0
 TurnKeeps =
     (c : Plan) (so_far : List SwitchEvent) (old networks : List Network) (transit : List InTransit)
-    (time until : ℕ) (ring : List OnCable) (f : FirstTurn) (value : Turned) →
+    (time until : ℕ) (ring : List OnCable) (f : FirstTurn) (value : Happened) →
     Keeps c old time ring so_far →
     IsFirstFrom 0 old (Some f) →
     f.order < order_without_turn →
@@ -144,7 +144,7 @@ IsEarly order time ring = (ring ≡ []) ⊎ (order ≤ 2 * time)
 
 -- the next event is a turn that is given by then
 pub record TurnsNext (c : Plan) (networks : List Network) (transit : List InTransit) (until : ℕ)
-    (so_far : List SwitchEvent) (k : ℕ) (value : Turned) : Type 0 where
+    (so_far : List SwitchEvent) (k : ℕ) (value : Happened) : Type 0 where
   pub at : ℕ
   pub in_time : at ≤ until
   pub is : TurnIsNext c networks transit at so_far k value

@@ -23,11 +23,11 @@ use Rattle.afdx_cascade.specs.Standing.{Stands, IsLast}
 use Rattle.afdx_cascade.specs.Cables.{brought}
 use Rattle.afdx_network.specs.declared.network.Departed.{Departed}
 use Rattle.afdx_cascade.specs.declared.told.Brought.{Brought}
+use Rattle.afdx_cascade.specs.declared.told.Happened.{Happened}
+use Rattle.afdx_cascade.specs.declared.told.Happened.TheVariants.{Ended, Carried, Came}
 use Rattle.afdx_config.specs.declared.switches.FarEnd.{FarEnd}
 use Rattle.afdx_cascade.specs.declared.cable.InTransit.{InTransit}
 use Rattle.afdx_cascade.specs.declared.told.Sent.{Sent}
-use Rattle.afdx_cascade.specs.declared.told.Turned.{Turned}
-use Rattle.afdx_cascade.specs.declared.told.Turned.TheVariants.{Ended, Carried}
 
 -- ---- the ends of cables, in a table of 25 entries a switch
 
@@ -99,14 +99,15 @@ pub record IsSent (c : Plan) (k : ℕ) (s : Sent) (d : Departure) : Type 0 where
   pub time : s.time ≡ d.turn.end
   pub tag : s.tag ≡ d.turn.entry.item.tag
 
-abbrev pub TellsTurn : Plan → ℕ → Turned → Departure → Type 0
-TellsTurn c k (Ended value) d = network.Hands value d
-TellsTurn c k (Carried s) d = IsSent c k s d
+abbrev pub TellsTurn : Plan → ℕ → Happened → Departure → Type 0
+TellsTurn c k (Ended at value) d = (at ≡ k) × network.Hands value d
+TellsTurn c k (Carried at s) d = (at ≡ k) × IsSent c k s d
+TellsTurn c k (Came b) d = ⊥
 
 -- the network of a switch gave its first turn by then, and networks and ring stand for it too: no
 -- cable carries its frame, or it joined the ring
 pub record TurnsAt (c : Plan) (networks : List Network) (transit : List InTransit) (time : ℕ)
-    (ring : List OnCable) (so_far : List SwitchEvent) (k until : ℕ) (value : Turned) : Type 0 where
+    (ring : List OnCable) (so_far : List SwitchEvent) (k until : ℕ) (value : Happened) : Type 0 where
   pub departure : Departure
   pub in_time : IsBy until (due_at departure.turn)
   pub tells : TellsTurn c k value departure

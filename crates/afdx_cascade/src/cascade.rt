@@ -144,7 +144,7 @@ impl Cascade {
             Some(turned) => {
                 let switch = first.switch;
                 self.least = renew(&mut self.keys, self.least, &self.networks, switch);
-                Ok(Some(Happened::Over(first.switch, turned)))
+                Ok(Some(turned))
             }
             None => Ok(None),
         }

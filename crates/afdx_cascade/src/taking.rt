@@ -15,7 +15,7 @@ ghost use Rattle.afdx_cascade.specs.Turning.{AreEnds, AreInTransit};
 
 use crate::cable::InTransit;
 use crate::scan::FirstTurn;
-use crate::told::{Brought, Turned};
+use crate::told::{Brought, Happened};
 use crate::turning::{front_at, turn_at};
 use afdx_config::FarEnd;
 use afdx_network::Network;
@@ -93,7 +93,7 @@ pub(crate) fn turn_next(
     transit: &mut VecDeque<InTransit>,
     first: FirstTurn,
     until: u64,
-) -> Result<Option<Turned>, AllocError>
+) -> Result<Option<Happened>, AllocError>
     requires first { IsFirstFrom 0 networks.old (Some first) }
     requires few { length networks.old ≤ switches_most }
     requires sound { (c : Plan) × (time : ℕ) × (ring : List OnCable) × (so_far : List SwitchEvent)

@@ -1,4 +1,4 @@
-//! What is told of a turn that is over, and of a frame that a cable brought.
+//! What is told of an event at one of several switches.
 
 use afdx_frame::Side;
 use afdx_network::Departed;
@@ -12,14 +12,6 @@ pub struct Sent {
     pub port: u8,
     pub time: u64,
     pub tag: u64,
-}
-
-/// A turn that is over: of a frame that left the switches or was dropped, or of one that a cable
-/// carries.
-#[derive(Drop)]
-pub enum Turned {
-    Ended(Departed),
-    Carried(Sent),
 }
 
 /// A frame that a cable brought to a port of the switch of this number, when, in ns, and what
@@ -36,9 +28,13 @@ pub struct Brought {
     pub early: u64,
 }
 
-/// What happened: a turn of the switch of this number is over, or a cable brought a frame.
+/// What happened at one of several switches.
 #[derive(Drop)]
 pub enum Happened {
-    Over(usize, Turned),
+    /// A frame left the switch of this number, and the switches, or was dropped there.
+    Ended(usize, Departed),
+    /// A frame left the switch of this number, and a cable carries it now.
+    Carried(usize, Sent),
+    /// A cable brought a frame.
     Came(Brought),
 }

@@ -18,7 +18,7 @@ ghost use Rattle.afdx_cascade.specs.Turning.{CanArrive};
 
 use crate::arriving::{bring_at, early_by, give_back_at, take_at};
 use crate::cable::{InTransit, far_end};
-use crate::told::{Brought, Sent, Turned};
+use crate::told::{Brought, Happened, Sent};
 use afdx_config::FarEnd;
 use afdx_network::Network;
 use std::alloc::AllocError;
@@ -35,7 +35,7 @@ pub(crate) fn turn_at(
     transit: &mut VecDeque<InTransit>,
     switch: usize,
     until: u64,
-) -> Option<Turned>
+) -> Option<Happened>
     requires within { switch < length networks.old }
     requires few { length networks.old ≤ switches_most }
     requires clock { (k : ℕ) (n : At) → slice_get networks.old k ≡ Some n →
@@ -55,15 +55,15 @@ pub(crate) fn turn_at(
     let departed = take_at(networks, switch, until)?;
     let departure = &departed.departure;
     if departure.too_old() {
-        return Some(Turned::Ended(departed));
+        return Some(Happened::Ended(switch, departed));
     }
     let time = departure.time();
     if time > LATEST_ARRIVAL {
-        return Some(Turned::Ended(departed));
+        return Some(Happened::Ended(switch, departed));
     }
     let port = departure.port();
     match far_end(ends, switch, port) {
-        None => Some(Turned::Ended(departed)),
+        None => Some(Happened::Ended(switch, departed)),
         Some(to) => {
             let sent = Sent {
                 side: departed.side,
@@ -77,7 +77,7 @@ pub(crate) fn turn_at(
                 from: switch,
                 departed,
             });
-            Some(Turned::Carried(sent))
+            Some(Happened::Carried(switch, sent))
         }
     }
 }
