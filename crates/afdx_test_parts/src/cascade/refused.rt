@@ -9,9 +9,10 @@ ghost use Rattle.afdx_cascade.specs.Plans.{plan_of};
 ghost use Rattle.afdx_cascade.specs.SwitchEvents.{SwitchEvent};
 
 use super::switches_of;
-use afdx_cascade::{Cascade, Happened, Turned};
+use afdx_cascade::{Cascade, Happened};
 use afdx_config::{SwitchId, Switches};
 use afdx_frame::{Checked, Side};
+use afdx_network::Departed;
 use afdx_switch::Verdict;
 use afdx_test_samples::{all_right, hello, two_switches};
 use std::alloc::{AllocError, Global};
@@ -186,29 +187,25 @@ fn comes_in(
     Ok(is_forwarded(verdict))
 }
 
-/// What is told of a turn of a switch.
-fn turn_told(switch: usize, turned: &Turned) -> Told {
-    match turned {
-        Turned::Ended(departed) => {
-            let gone = &departed.departure;
-            if gone.too_old() || departed.side == Side::B {
-                return Told::Other;
-            }
-            Told::Left(switch, gone.port(), gone.tag(), gone.time())
-        }
-        Turned::Carried(sent) => {
-            if sent.side == Side::B {
-                return Told::Other;
-            }
-            Told::Left(switch, sent.port, sent.tag, sent.time)
-        }
+/// What is told of a frame that left a port of a switch in time, or was dropped there.
+fn end_told(switch: usize, departed: &Departed) -> Told {
+    let gone = &departed.departure;
+    if gone.too_old() || departed.side == Side::B {
+        return Told::Other;
     }
+    Told::Left(switch, gone.port(), gone.tag(), gone.time())
 }
 
 /// What is told of an event.
 fn event_told(happened: &Happened) -> Told {
     match happened {
-        Happened::Over(switch, turned) => turn_told(*switch, turned),
+        Happened::Ended(switch, departed) => end_told(*switch, departed),
+        Happened::Carried(switch, sent) => {
+            if sent.side == Side::B {
+                return Told::Other;
+            }
+            Told::Left(*switch, sent.port, sent.tag, sent.time)
+        }
         Happened::Came(brought) => {
             let (switch, port, tag, time) = (
                 brought.switch,
