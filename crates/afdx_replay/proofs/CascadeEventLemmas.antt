@@ -148,10 +148,6 @@ pub ok-more : {V E : Type 0} (r : Result V E) {P Q : Type 0} → (P → Q) → O
 ok-more (Ok v) f p = f p
 ok-more (Err e) f p = tt
 
-pub ok-two : {V E : Type 0} (r : Result V E) {P Q R : Type 0} → (P → Q → R) → OnOk r P → OnOk r Q → OnOk r R
-ok-two (Ok v) f p q = f p q
-ok-two (Err e) f p q = tt
-
 ok-three : {V E : Type 0} (r : Result V E) {P Q R S : Type 0} → (P → Q → R → S) → OnOk r P → OnOk r Q → OnOk r R
     → OnOk r S
 ok-three (Ok v) f p q r = f p q r

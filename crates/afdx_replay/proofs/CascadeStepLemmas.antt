@@ -11,7 +11,7 @@ use Rattle.afdx_cascade.specs.Turning.{WasEarlyBy}
 use Rattle.afdx_cascade.specs.declared.cascade.Cascade.{Cascade}
 use Rattle.afdx_cascade.specs.declared.told.Brought.{Brought}
 use Rattle.afdx_cascade.specs.declared.told.Happened.{Happened}
-use Rattle.afdx_cascade.specs.declared.told.Happened.TheVariants.{Over, Came}
+use Rattle.afdx_cascade.specs.declared.told.Happened.TheVariants.{Ended, Carried, Came}
 use Rattle.afdx_cascade.proofs.EarlyLemmas.{early-told, early-none}
 use Rattle.afdx_cascade.proofs.MoreLemmas.{came-same}
 use Rattle.afdx_cascade.proofs.NextLemmas.{until-more}
@@ -115,7 +115,8 @@ module _ (c : Plan) (new : Cascade) (so_far : List SwitchEvent) (at : ℕ) (x : 
 
 place-is : (c : Plan) (so_far : List SwitchEvent) (happened : Happened) (h : SwitchEvent)
     → TellsEvent c so_far happened h → place_of happened ≡ h.switch
-place-is c so_far (Over k turned) h tells = sym (ap (λ (e : SwitchEvent). e.switch) tells.1)
+place-is c so_far (Ended k departed) h tells = sym (ap (λ (e : SwitchEvent). e.switch) tells.1)
+place-is c so_far (Carried k sent) h tells = sym (ap (λ (e : SwitchEvent). e.switch) tells.1)
 place-is c so_far (Came b) h tells = sym (ap (λ (e : SwitchEvent). e.switch) tells.is)
 
 -- ---- one event more

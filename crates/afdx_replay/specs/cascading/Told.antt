@@ -14,7 +14,7 @@ use Rattle.afdx_cascade.specs.SwitchEvents.{SwitchEvent, HaveBroughtAll, at_swit
 use Rattle.afdx_cascade.specs.declared.cascade.Cascade.{Cascade}
 use Rattle.afdx_cascade.specs.declared.told.Brought.{Brought}
 use Rattle.afdx_cascade.specs.declared.told.Happened.{Happened}
-use Rattle.afdx_cascade.specs.declared.told.Happened.TheVariants.{Over, Came}
+use Rattle.afdx_cascade.specs.declared.told.Happened.TheVariants.{Ended, Carried, Came}
 use Rattle.afdx_command_tables.specs.declared.summary.Summary.{Summary}
 use Rattle.afdx_config.specs.Switches.{NamedRows}
 use Rattle.afdx_end_systems.specs.StandsFor as systems
@@ -28,7 +28,8 @@ use Rattle.afdx_replay.specs.replaying.Text.{frames_left, with_event}
 
 -- the switch at which it happened
 abbrev pub place_of : Happened → ℕ
-place_of (Over k turned) = k
+place_of (Ended k departed) = k
+place_of (Carried k sent) = k
 place_of (Came b) = b.switch
 
 -- of each accepted frame few copies are lost, and no more messages come than frames left

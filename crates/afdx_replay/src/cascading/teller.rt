@@ -6,16 +6,15 @@ ghost use Rattle.afdx_cascade.specs.Cascade.{TellsArrival, TellsEvent};
 ghost use Rattle.afdx_cascade.specs.Plans.{plan_of};
 ghost use Rattle.afdx_cascade.specs.Runs.{event_at};
 ghost use Rattle.afdx_cascade.specs.SwitchEvents.{SwitchEvent};
-ghost use Rattle.afdx_cascade.specs.Turning.{TellsTurn};
+ghost use Rattle.afdx_cascade.specs.Turning.{IsSent};
 ghost use Rattle.afdx_command_tables.specs.Counts.{no_counts};
 ghost use Rattle.afdx_config.specs.Switches.{AreSwitches};
 ghost use Rattle.afdx_input_lines.specs.Calls.{AppendsFront, is_failed_write};
 ghost use Rattle.afdx_input_lines.specs.declared.watched.Watched.{Watched as Device};
 ghost use Rattle.afdx_network.specs.Events.{Departure, Left};
+ghost use Rattle.afdx_network.specs.Network as network;
 ghost use Rattle.std.specs.Io.KnownBytes.{Appends};
-ghost use Rattle.afdx_text.specs.OutLines.{departure_line, place_text};
 ghost use Rattle.afdx_text.specs.Sinks.{IsOfOutput};
-ghost use Rattle.afdx_replay.specs.replaying.Text.{with_departure};
 ghost use Rattle.afdx_replay.specs.replaying.Replayed.{AreLow};
 ghost use Rattle.afdx_replay.specs.cascading.Early.{HearsEarly};
 ghost use Rattle.afdx_replay.specs.cascading.Text.{event_lines};
@@ -25,11 +24,12 @@ ghost use Rattle.afdx_replay.specs.cascading.Told.{AreSteady, SystemsAre, TellsO
 
 use crate::early::{is_over_rate, tell_early};
 use crate::replaying::telling::{tell_departure, tell_verdict};
-use afdx_cascade::{Brought, Happened, Sent, Turned};
+use afdx_cascade::{Brought, Happened, Sent};
 use afdx_command_tables::{NO_COUNTS, Summary};
 use afdx_config::{SwitchId, Switches};
 use afdx_end_systems::Systems;
 use afdx_input_lines::{RunFault, Watched};
+use afdx_network::Departed;
 use afdx_text::{OutLine, Sink, Site};
 use std::alloc::{AllocError, Global};
 use std::io::Write;
@@ -77,37 +77,40 @@ impl<'a, D: Write> Teller<'a, D> {
         })
     }
 
-    /// Tells a frame that left a switch of this name and that a cable carries now: nothing hears it
-    /// there.
-    fn tell_sent<O: Sink>(
+    /// Tells a frame that left a switch and that a cable carries now: nothing hears it there.
+    fn tell_carried<O: Sink>(
         &mut self,
-        switch: &str,
-        sent: &Sent,
+        switch: usize,
+        sent: Sent,
         output: &mut O,
     ) -> Result<(), RunFault>
+        requires fits { IsFor self.old.switches.now self.old }
         requires low { AreLow self.old.counts }
         requires sound { O.failed output.old ≡ false }
         ensures failed { O.failed output.new ≡ is_failed_write result }
         ensures fault { IfErr result IsOfOutput }
         ensures settings { O.settings output.new ≡ O.settings output.old }
-        ensures switches { self.new.switches ≡ self.old.switches }
-        ensures systems { self.new.systems ≡ self.old.systems }
+        ensures fits { OnOk result (IsFor self.old.switches.now self.new) }
+        ensures steady { AreSteady self.old.counts → OnOk result (AreSteady self.new.counts) }
         ensures early { self.new.early ≡ self.old.early }
-        ensures counted { OnOk result
-            (self.new.counts ≡ with_departure self.old.counts false false) }
-        ensures line { OnOk result (Appends (O.written output.old) (O.written output.new)
-            (departure_line false sent.now.tag sent.now.time
-            (place_text sent.now.side switch.now) sent.now.port)) }
-        ensures front { OnErr result (AppendsFront (O.written output.old) (O.written output.new)
-            (departure_line false sent.now.tag sent.now.time
-            (place_text sent.now.side switch.now) sent.now.port)) }
+        ensures told { (before : List SwitchEvent) (d : Departure) →
+            SystemsAre self.old.switches.now self.old.systems.items before →
+            IsSent (plan_of self.old.switches.now) switch sent d →
+            OnOk result (TellsOne self.old.switches.now self.new.systems.items
+            self.old.counts self.new.counts (O.written output.old) (O.written output.new)
+            before (event_at switch (Left d))) }
+        ensures begun { (before : List SwitchEvent) (d : Departure) →
+            IsSent (plan_of self.old.switches.now) switch sent d →
+            OnErr result (AppendsFront (O.written output.old) (O.written output.new)
+            (event_lines self.old.switches.now before (event_at switch (Left d)))) }
     {
+        let name = self.switches.name(SwitchId(switch as u8));
         let line = OutLine::Left {
             n: sent.tag,
             time: sent.time,
             site: Site {
                 side: sent.side,
-                switch,
+                switch: name,
             },
             port: sent.port,
             too_old: false,
@@ -117,11 +120,11 @@ impl<'a, D: Write> Teller<'a, D> {
         Ok(())
     }
 
-    /// Tells a turn that is over at a switch.
-    fn tell_turn<O: Sink>(
+    /// Tells a frame that left a switch, and the switches, or was dropped there.
+    fn tell_ended<O: Sink>(
         &mut self,
         switch: usize,
-        turned: Turned,
+        departed: Departed,
         output: &mut O,
     ) -> Result<(), RunFault>
         requires within { switch < length self.old.systems.items }
@@ -136,25 +139,20 @@ impl<'a, D: Write> Teller<'a, D> {
         ensures early { self.new.early ≡ self.old.early }
         ensures told { (before : List SwitchEvent) (d : Departure) →
             SystemsAre self.old.switches.now self.old.systems.items before →
-            TellsTurn (plan_of self.old.switches.now) switch turned d →
+            network.Hands departed d →
             OnOk result (TellsOne self.old.switches.now self.new.systems.items
             self.old.counts self.new.counts (O.written output.old) (O.written output.new)
             before (event_at switch (Left d))) }
         ensures begun { (before : List SwitchEvent) (d : Departure) →
             SystemsAre self.old.switches.now self.old.systems.items before →
-            TellsTurn (plan_of self.old.switches.now) switch turned d →
+            network.Hands departed d →
             OnErr result (AppendsFront (O.written output.old) (O.written output.new)
             (event_lines self.old.switches.now before (event_at switch (Left d)))) }
     {
         let name = self.switches.name(SwitchId(switch as u8));
-        match turned {
-            Turned::Ended(departed) => {
-                let systems = &mut self.systems[switch];
-                let counts = &mut self.counts;
-                tell_departure::<Teller<'a, D>, O>(systems, counts, name, &departed, output)
-            }
-            Turned::Carried(sent) => self.tell_sent(name, &sent, output),
-        }
+        let systems = &mut self.systems[switch];
+        let counts = &mut self.counts;
+        tell_departure::<Teller<'a, D>, O>(systems, counts, name, &departed, output)
     }
 
     /// Tells a frame that came to a switch, of the list or over a cable.
@@ -238,7 +236,8 @@ impl<'a, D: Write> Teller<'a, D> {
             (event_lines self.old.switches.now before h)) }
     {
         match happened {
-            Happened::Over(switch, turned) => self.tell_turn(switch, turned, output),
+            Happened::Ended(switch, departed) => self.tell_ended(switch, departed, output),
+            Happened::Carried(switch, sent) => self.tell_carried(switch, sent, output),
             Happened::Came(brought) => self.tell_arrival(&brought, output),
         }
     }
