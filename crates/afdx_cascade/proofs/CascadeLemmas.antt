@@ -11,7 +11,7 @@ use Rattle.afdx_switch.specs.Departures.{as_given}
 use Rattle.afdx_switch.specs.HeldFrames.{HeldFrame}
 use Rattle.afdx_switch.specs.Verdicts.{shape_fault}
 use Rattle.afdx_switch.specs.declared.verdict.Verdict.{Verdict}
-use Rattle.afdx_network.specs.Events.{Event, Left, Came as CameHere, admission_after}
+use Rattle.afdx_network.specs.Events.{Departure, Event, Left, Came as CameHere, admission_after}
 use Rattle.afdx_network.specs.Network as network
 use Rattle.afdx_network.specs.Order.{side_number}
 use Rattle.afdx_network.specs.declared.network.Network.{Network}

@@ -84,6 +84,7 @@ impl<'a, D: Write> Teller<'a, D> {
         sent: Sent,
         output: &mut O,
     ) -> Result<(), RunFault>
+        requires within { switch < length self.old.systems.items }
         requires fits { IsFor self.old.switches.now self.old }
         requires low { AreLow self.old.counts }
         requires sound { O.failed output.old ≡ false }

@@ -12,7 +12,7 @@ returns-clause-told g c before d are is =
     let named = name-is ss k name c.name-name.ensures.name in
     told-sent ss c.args.self.now.systems.items k before name named c.args.sent d is c.args.self.now.counts
     (with_departure c.args.self.now.counts false false) (g.O.Sink.written c.args.output.now)
-    (g.O.Sink.written c.put.new.output) are refl c.in_ok-put.ensures.whole
+    (g.O.Sink.written c.put.new.self) are refl c.in_ok-put.ensures.whole
 
 pub returns-in_err-put-clause-begun : goal.returns-in_err-put-clause-begun
 returns-in_err-put-clause-begun g c before d is =
@@ -22,4 +22,4 @@ returns-in_err-put-clause-begun g c before d is =
     let named = name-is ss k name c.name-name.ensures.name in
     on-err c.from_residual.result _
     (begun-sent ss c.args.self.now.systems.items k before name named c.args.sent d is
-    (g.O.Sink.written c.args.output.now) (g.O.Sink.written c.put.new.output) c.in_err-put.ensures.front)
+    (g.O.Sink.written c.args.output.now) (g.O.Sink.written c.put.new.self) c.in_err-put.ensures.front)
