@@ -86,7 +86,7 @@ to-longer message more vl to = record {
   fits = to.fits;
 }
 
-to-shorter : (message more : List ℕ) (vl : ℕ) → 6 ≤ length message → IsTo (message ++ more) vl → IsTo message vl
+pub to-shorter : (message more : List ℕ) (vl : ℕ) → 6 ≤ length message → IsTo (message ++ more) vl → IsTo message vl
 to-shorter message more vl h to = record {
   rest = drop 6 message;
   parts = sym (take-append-drop 6 message)

@@ -68,6 +68,10 @@ frame_of bytes =
 abbrev pub IsFrameOf : List ℕ → FrameParts → Type 0
 IsFrameOf bytes p = IsFrame bytes p.link.0 p.kind p.body p.number
 
+-- the bytes are a frame of a link
+abbrev pub IsLinkFrame : List ℕ → Type 0
+IsLinkFrame bytes = (p : FrameParts) × IsFrameOf bytes p
+
 -- each part stands at its place
 pub record AreAtPlaces (bytes : List ℕ) (p : FrameParts) : Type 0 where
   pub link : link_named_by bytes ≡ Some p.link
