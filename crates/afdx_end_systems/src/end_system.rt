@@ -72,7 +72,7 @@ impl EndSystem {
             row,
             ..
         } = handover;
-        match self.receiver.receive(time, side, frame, row) {
+        match self.receiver.receive_known(time, side, frame, row) {
             Reception::Dropped(why) => Reception::Dropped(why),
             Reception::Message { vl, udp, bytes } => {
                 match self.ports.find_near(row, vl, udp) {

@@ -1,5 +1,7 @@
 //! What a switch hands over to an end system.
 
+ghost use Rattle.afdx_frame.specs.Parts.{bytes_of, IsLinkFrame};
+
 use afdx_frame::{Checked, Side};
 
 /// A frame that leaves an output port of a switch, and is handed over to the system there.
@@ -16,6 +18,7 @@ pub struct Handover<'a> {
     /// Where the tables have the frame's link: the system looks for its memory there first. What it
     /// makes of the frame is the same whatever this says.
     pub row: u16,
-    /// The frame.
+    /// The frame, one of a link: a switch lets no other pass.
     pub frame: Checked<'a>,
+    pub ghost framed: { IsLinkFrame (bytes_of frame) },
 }

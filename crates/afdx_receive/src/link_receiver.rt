@@ -1,7 +1,7 @@
 //! The receiving side of an end system, as far as its links go.
 
-ghost use Rattle.std.specs.Prelude.{◌≡◌, ℕ, false, List, [], IsTrue, IfOk, option_map};
-ghost use Rattle.afdx_frame.specs.Parts.{bytes_of, parts_of, IsFrameOf};
+ghost use Rattle.std.specs.Prelude.{◌≡◌, ℕ, false, List, [], Ok, IsTrue, IfOk, option_map};
+ghost use Rattle.afdx_frame.specs.Parts.{bytes_of, frame_of, parts_of, IsFrameOf, IsLinkFrame};
 ghost use Rattle.afdx_frame.specs.Carried.{carried_by};
 ghost use Rattle.afdx_config.specs.Rows.{Rows};
 ghost use Rattle.afdx_config.specs.Reading.{has_port};
@@ -104,10 +104,42 @@ impl LinkReceiver {
             Selects tables system past x (answer_of result) self.new }
         ensures unchanged { IsTrue (is_ignored (answer_of result)) → self.new ≡ self.old }
     {
-        let view = match MacView::of(frame) {
-            Ok(view) => view,
-            Err(fault) => return Reception::Dropped(DropReason::Mac(fault)),
-        };
+        match MacView::of(frame) {
+            Ok(view) => self.take_in(time, side, view, row),
+            Err(fault) => Reception::Dropped(DropReason::Mac(fault)),
+        }
+    }
+
+    /// Takes in a frame of a link, of which that is known, as `receive` does. It isn't looked at
+    /// again.
+    #[inline(always)]
+    pub fn receive_known<'a>(
+        &mut self,
+        time: u64,
+        side: Side,
+        frame: Checked<'a>,
+        row: u16,
+    ) -> Reception<'a>
+        requires { IsLinkFrame (bytes_of frame) }
+        ensures selected { (tables : Rows) (system : ℕ) (past : List Arrived) →
+            HasReceived tables system past self.old →
+            let x = arrived time side (bytes_of frame.entry) in
+            Selects tables system past x (answer_of result) self.new }
+        ensures unchanged { IsTrue (is_ignored (answer_of result)) → self.new ≡ self.old }
+    {
+        self.take_in(time, side, MacView::known(frame), row)
+    }
+
+    /// Takes in the frame that this view is of.
+    #[inline(always)]
+    fn take_in<'a>(&mut self, time: u64, side: Side, view: MacView<'a>, row: u16) -> Reception<'a>
+        ensures selected { (tables : Rows) (system : ℕ) (past : List Arrived) (bytes : List ℕ) →
+            HasReceived tables system past self.old →
+            IsFrameOf bytes (parts_of view.entry) →
+            frame_of bytes ≡ Ok (parts_of view.entry) →
+            Selects tables system past (arrived time side bytes) (answer_of result) self.new }
+        ensures unchanged { IsTrue (is_ignored (answer_of result)) → self.new ≡ self.old }
+    {
         let number = view.sequence();
         let Some(standing) = self.links.consider(row, view.vl(), time, side, number) else {
             return Reception::Dropped(DropReason::NotSubscribed);

@@ -1,7 +1,8 @@
 //! The shares of a frame's one copy.
 
 ghost use Rattle.std.specs.Prelude.{◌≡◌, ◌≤◌, ◌+◌, length, IfOk, OnOk, IfSome};
-ghost use Rattle.afdx_frame.specs.Lengths.{least_frame, greatest_frame};
+ghost use Rattle.afdx_frame.specs.Lengths.{greatest_frame};
+ghost use Rattle.afdx_frame.specs.Parts.{IsLinkFrame};
 ghost use Rattle.afdx_frame.specs.Sealing.{sealed};
 ghost use Rattle.afdx_port.specs.Times.{greatest_wait};
 
@@ -74,6 +75,7 @@ pub struct Frame {
 impl Model for Frame {
     ghost use Rattle.std.specs.Prelude.{◌≤◌, ◌+◌, length, IfSome};
     ghost use Rattle.afdx_frame.specs.Lengths.{least_frame, greatest_frame};
+    ghost use Rattle.afdx_frame.specs.Parts.{IsLinkFrame};
     ghost use Rattle.afdx_frame.specs.Sealing.{sealed};
     ghost use Rattle.afdx_port.specs.Times.{greatest_wait};
     ghost use Rattle.afdx_switch.specs.HeldFrames.{HeldFrame};
@@ -88,7 +90,8 @@ impl Model for Frame {
 
     ghost invariant = { λ f. (least_frame ≤ length f.stored.value.message.items + 4)
         × (length f.stored.value.message.items + 4 ≤ greatest_frame)
-        × IfSome f.stored.value.longest_wait (λ wait. wait ≤ greatest_wait) };
+        × IfSome f.stored.value.longest_wait (λ wait. wait ≤ greatest_wait)
+        × IsLinkFrame (sealed f.stored.value.message.items) };
 }
 
 impl Frame {
@@ -96,8 +99,7 @@ impl Frame {
 
     /// The first share of a frame's one copy.
     pub(crate) fn of(stored: Rc<Stored>) -> Frame
-        requires shortest { least_frame ≤ length (stored_frame stored.value).bytes }
-        requires longest { length (stored_frame stored.value).bytes ≤ greatest_frame }
+        requires framed { IsLinkFrame (stored_frame stored.value).bytes }
         requires wait { IfSome (stored_frame stored.value).longest_wait
             (λ wait. wait ≤ greatest_wait) }
         ensures { result ≡ stored_frame stored.value }
@@ -137,6 +139,7 @@ impl Frame {
     pub(crate) fn message(&self) -> &[u8]
         ensures message { sealed result.now ≡ self.now.bytes }
         ensures longest { length result.now + 4 ≤ greatest_frame }
+        ensures framed { IsLinkFrame self.now.bytes }
     {
         self.stored.as_ref().message.as_slice()
     }

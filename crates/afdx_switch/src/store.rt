@@ -1,7 +1,7 @@
 //! The copies of frames, whose memory is used again.
 
-ghost use Rattle.std.specs.Prelude.{◌≡◌, ◌≤◌, length, IfOk, IfSome, OnOk, IsTrue};
-ghost use Rattle.afdx_frame.specs.Lengths.{least_frame, greatest_frame};
+ghost use Rattle.std.specs.Prelude.{◌≡◌, ◌≤◌, IfOk, IfSome, OnOk, IsTrue};
+ghost use Rattle.afdx_frame.specs.Parts.{IsLinkFrame};
 ghost use Rattle.afdx_frame.specs.Sealing.{sealed};
 ghost use Rattle.afdx_port.specs.Times.{greatest_wait};
 ghost use Rattle.afdx_switch.specs.HeldFrames.{held_frame, stored_frame};
@@ -57,8 +57,7 @@ impl Store {
         longest_wait: Option<u64>,
         message: &[u8],
     ) -> Result<Frame, AllocError>
-        requires shortest { least_frame ≤ length (sealed message.now) }
-        requires longest { length (sealed message.now) ≤ greatest_frame }
+        requires framed { IsLinkFrame (sealed message.now) }
         requires wait { IfSome longest_wait (λ wait. wait ≤ greatest_wait) }
         ensures { IfOk result (λ f. f ≡ held_frame tag longest_wait (sealed message.now)) }
     {

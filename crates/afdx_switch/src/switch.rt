@@ -35,7 +35,7 @@ pub struct Departure {
 }
 
 impl Departure {
-    ghost use Rattle.afdx_frame.specs.Parts.{bytes_of};
+    ghost use Rattle.afdx_frame.specs.Parts.{bytes_of, IsLinkFrame};
     ghost use Rattle.afdx_frame.specs.Sealing.{is_sealed};
     ghost use Rattle.afdx_switch.specs.Departures.{as_given, giving_port};
 
@@ -80,7 +80,8 @@ impl Departure {
 
     /// The same by its message and its seal, which is right. No check sequence is found.
     pub fn frame(&self) -> Checked<'_>
-        ensures { bytes_of result ≡ (as_given self.now).item.bytes }
+        ensures bytes { bytes_of result ≡ (as_given self.now).item.bytes }
+        ensures framed { IsLinkFrame (bytes_of result) }
     {
         let message = self.left.item.message();
         Checked {

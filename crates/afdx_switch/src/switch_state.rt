@@ -191,6 +191,7 @@ impl SwitchState {
         ensures shortest { OnOk result (least_frame ≤ length (bytes_of frame.entry)) }
         ensures longest { OnOk result (length (bytes_of frame.entry) ≤ greatest_frame) }
         ensures sealed { OnOk result (bytes_of frame.entry ≡ sealed frame.entry.message.now) }
+        ensures framed { OnOk result (IsLinkFrame (bytes_of frame.entry)) }
     {
         let view = match MacView::of(frame) {
             Ok(view) => view,

@@ -46,7 +46,7 @@ returns-clause-judged c p at r rest so_far st on-side left =
     same-frame r c.args.port c.tag.result c.time.result c.args.departed.now.side (bytes_of c.frame.result)
     (c.tag.ensures ∙ ap (λ (l : Left HeldFrame). l.item.tag) left)
     (c.time.ensures ∙ ap (λ (l : Left HeldFrame). l.end) left) on-side
-    (c.frame.ensures ∙ ap (λ (l : Left HeldFrame). l.item.bytes) left) in
+    (c.frame.ensures.bytes ∙ ap (λ (l : Left HeldFrame). l.item.bytes) left) in
     subst (λ z. OnErr c.arrive.result (shape_fault (p.tables k) z ≡ None)) same
     (c.arrive.ensures.judged (p.tables k) (at_switch k so_far)
     (st.all.each k _
@@ -62,7 +62,7 @@ returns-clause-verdict c p at r rest so_far st on-side left =
     same-frame r c.args.port c.tag.result c.time.result c.args.departed.now.side (bytes_of c.frame.result)
     (c.tag.ensures ∙ ap (λ (l : Left HeldFrame). l.item.tag) left)
     (c.time.ensures ∙ ap (λ (l : Left HeldFrame). l.end) left) on-side
-    (c.frame.ensures ∙ ap (λ (l : Left HeldFrame). l.item.bytes) left) in
+    (c.frame.ensures.bytes ∙ ap (λ (l : Left HeldFrame). l.item.bytes) left) in
     same-result c.arrive.result (λ z v.
     network.Tells v (admission_after (p.tables k) (came_to k so_far) z)) x y same
     (c.arrive.ensures.verdict (p.tables k) (at_switch k so_far)
@@ -79,7 +79,7 @@ returns-clause-stands c p at r rest so_far plan st joined on-side left =
     same-frame r c.args.port c.tag.result c.time.result c.args.departed.now.side (bytes_of c.frame.result)
     (c.tag.ensures ∙ ap (λ (l : Left HeldFrame). l.item.tag) left)
     (c.time.ensures ∙ ap (λ (l : Left HeldFrame). l.end) left) on-side
-    (c.frame.ensures ∙ ap (λ (l : Left HeldFrame). l.item.bytes) left) in
+    (c.frame.ensures.bytes ∙ ap (λ (l : Left HeldFrame). l.item.bytes) left) in
     on-ok c.arrive.result
     (network.StandsFor (p.tables k) c.arrive.new.self
     (Came (admission_after (p.tables k) (came_to k so_far) x) ∷ at_switch k so_far))

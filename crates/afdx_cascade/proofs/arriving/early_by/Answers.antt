@@ -30,7 +30,7 @@ returns c p so_far r stand side left tells =
     let y : Arrival = arrival_with gone.item.tag c.time-time.result c.args.departed.now.side c.args.port
     (bytes_of c.frame-frame.result) in
     let same : y ≡ x = brought-is gone.item.tag c.time-time.result c.args.departed.now.side r.side
-    c.args.port (bytes_of c.frame-frame.result) r.turn gone refl c.time-time.ensures c.frame-frame.ensures
+    c.args.port (bytes_of c.frame-frame.result) r.turn gone refl c.time-time.ensures c.frame-frame.ensures.bytes
     side left in
     let early : shape_fault (p.tables k) x ≡ None
     → IsEarlyBy (p.tables k) (came_to k (arriving p so_far k x ∷ so_far)) x c.early_at.result =

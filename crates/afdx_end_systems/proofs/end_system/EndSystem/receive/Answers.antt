@@ -2,11 +2,14 @@ use Rattle.afdx_end_systems.specs.Handovers.{handed_over, arrival_of}
 use Rattle.afdx_end_systems.proofs.FoundLemmas.{found, unfound}
 use Rattle.afdx_end_systems.proofs.end_system.EndSystem.receive.Goals as goal
 
+pub receive_known-requires : goal.receive_known-requires
+receive_known-requires c = c.args.handover.framed
+
 pub returns-in-Dropped-clause-stands : goal.returns-in-Dropped-clause-stands
 returns-in-Dropped-clause-stands c = λ rows system past is.
     record {
       name = is.name;
-      receives = (c.receive.ensures.selected rows system past is.receives).stands;
+      receives = (c.receive_known.ensures.selected rows system past is.receives).stands;
       found = is.found;
     }
 
@@ -14,7 +17,7 @@ pub returns-in-None-clause-stands : goal.returns-in-None-clause-stands
 returns-in-None-clause-stands c = λ rows system past is.
     record {
       name = is.name;
-      receives = (c.receive.ensures.selected rows system past is.receives).stands;
+      receives = (c.receive_known.ensures.selected rows system past is.receives).stands;
       found = is.found;
     }
 
@@ -22,7 +25,7 @@ pub returns-in-Some-clause-stands : goal.returns-in-Some-clause-stands
 returns-in-Some-clause-stands c = λ rows system past is.
     record {
       name = is.name;
-      receives = (c.receive.ensures.selected rows system past is.receives).stands;
+      receives = (c.receive_known.ensures.selected rows system past is.receives).stands;
       found = is.found;
     }
 

@@ -38,7 +38,7 @@ returns-in_err-hear-clause-begun g c t before d stands is =
     let left : d.turn.too_old ≡ false = sym (old-is c.args.departed.now d is)
     ∙ sym c.too_old.ensures ∙ c.if-too_old.false in
     let handed = handed-is c.args.departed.now d is c.port.result c.time.result c.tag.result
-    (bytes_of c.frame.result) c.port.ensures c.time.ensures c.tag.ensures c.frame.ensures in
+    (bytes_of c.frame.result) c.port.ensures c.time.ensures c.tag.ensures c.frame.ensures.bytes in
     let a = g.O.Sink.written c.args.output.now in
     let m = g.O.Sink.written c.put_departure.new.output in
     let b = g.O.Sink.written c.hear.new.output in
@@ -58,7 +58,7 @@ returns-in-Message-clause-told g c t before d stands is =
     let left : d.turn.too_old ≡ false = sym (old-is c.args.departed.now d is)
     ∙ sym c.too_old.ensures ∙ c.if-too_old.false in
     let handed = handed-is c.args.departed.now d is c.port.result c.time.result c.tag.result
-    (bytes_of c.frame.result) c.port.ensures c.time.ensures c.tag.ensures c.frame.ensures in
+    (bytes_of c.frame.result) c.port.ensures c.time.ensures c.tag.ensures c.frame.ensures.bytes in
     let a = g.O.Sink.written c.args.output.now in
     let m = g.O.Sink.written c.put_departure.new.output in
     let b = g.O.Sink.written c.hear.new.output in
@@ -82,7 +82,7 @@ returns-in-Nothing-clause-told g c t before d stands is =
     let left : d.turn.too_old ≡ false = sym (old-is c.args.departed.now d is)
     ∙ sym c.too_old.ensures ∙ c.if-too_old.false in
     let handed = handed-is c.args.departed.now d is c.port.result c.time.result c.tag.result
-    (bytes_of c.frame.result) c.port.ensures c.time.ensures c.tag.ensures c.frame.ensures in
+    (bytes_of c.frame.result) c.port.ensures c.time.ensures c.tag.ensures c.frame.ensures.bytes in
     let a = g.O.Sink.written c.args.output.now in
     let m = g.O.Sink.written c.put_departure.new.output in
     let b = g.O.Sink.written c.hear.new.output in

@@ -1,7 +1,7 @@
 use Rattle.std.proofs.Common.{◌≡◌, ◌∙◌, sym, ap, subst, arith, refl, length, Some, None}
 use Rattle.std.specs.Prelude.{vec_len}
 use Rattle.std.proofs.lemmas.Option.{slice_get_read}
-use Rattle.afdx_frame.specs.Parts.{bytes_of}
+use Rattle.afdx_frame.specs.Parts.{bytes_of, IsLinkFrame}
 use Rattle.afdx_police.specs.Arrival.{arrival_with}
 use Rattle.afdx_switch.specs.HeldFrames.{HeldFrame, held_frame}
 use Rattle.afdx_switch.specs.Shares.{AreShares}
@@ -30,6 +30,10 @@ returns-in-Err-clause-arrives c =
     (λ t side h st. stands-faulted t (arrival_with c.args.tag c.args.time side c.args.port bytes) c.in-Err.reason
     (c.in-Err.ensures.faulted t side h c.args.tag c.args.time st) w _ h st refl)
     c.requires.quiet (omega arith) refl
+
+-- it is copied
+pub copy-requires-clause-framed : goal.copy-requires-clause-framed
+copy-requires-clause-framed c = subst IsLinkFrame c.in-Ok.ensures.sealed c.in-Ok.ensures.framed
 
 -- there was no memory for its copy
 pub returns-in_err-copy-clause-arrives : goal.returns-in_err-copy-clause-arrives

@@ -85,3 +85,6 @@ pub returns-in-None-clause-sealed : goal.returns-in-None-clause-sealed
 returns-in-None-clause-sealed c =
     right c.args.frame.seal c.args.frame.message.now c.args.frame.known
     (frame_is_sealed (bytes_of c.args.frame) (parts_of c.in-Ok.view) c.in-Ok.ensures.computed)
+
+pub returns-in-None-clause-framed : goal.returns-in-None-clause-framed
+returns-in-None-clause-framed c = (parts_of c.in-Ok.view, c.in-Ok.ensures.ok)
