@@ -1,7 +1,7 @@
 //! The machine of a run: each frame goes to its streams, and what is found there is told at its
 //! moment.
 
-ghost use Rattle.std.specs.Prelude.{◌≡◌, ◌<◌, ◌≤◌, ◌+◌, ◌∷◌, [], ℕ, Bool, List, Option, IfErr, IfOk, IfSome, OnErr};
+ghost use Rattle.std.specs.Prelude.{◌≡◌, ◌<◌, ◌≤◌, ◌+◌, ◌∷◌, [], ℕ, Bool, List, Option, IfOk, IfSome, OnErr};
 ghost use Rattle.std.specs.Prelude.{OnOk, None, Some, false, is_some, length, min, true};
 ghost use Rattle.std.specs.Io.KnownBytes.{Appends};
 ghost use Rattle.afdx_command_conform.specs.Choices.{Choices as Chosen, latest_of, left_out_of};
@@ -24,8 +24,8 @@ ghost use Rattle.afdx_frame.specs.Seals.{IsSealedAs};
 ghost use Rattle.afdx_frame.specs.Times.{latest_listed};
 ghost use Rattle.afdx_input_runs.specs.Joining.{Frame, frame_of, frames_of};
 ghost use Rattle.afdx_input_runs.specs.declared.seen.Seen.{Seen as Passed};
-ghost use Rattle.afdx_input_lines.specs.Calls.{AppendsFront, is_failed_write};
-ghost use Rattle.afdx_text.specs.Sinks.{IsOfOutput};
+ghost use Rattle.afdx_input_lines.specs.Calls.{AppendsFront};
+ghost use Rattle.afdx_text.specs.Sinks.{SinkKept};
 
 use crate::asked::{is_in_time, is_left_out};
 use crate::choices::Choices;
@@ -95,9 +95,7 @@ impl<'a> JudgingRun<'a> {
     /// Tells some lines, and counts those that are findings.
     fn tell_lines<O: Sink>(&mut self, lines: &[ConformLine], output: &mut O) -> Result<(), RunFault>
         requires sound { O.failed output.old ≡ false }
-        ensures failed { O.failed output.new ≡ is_failed_write result }
-        ensures fault { IfErr result IsOfOutput }
-        ensures settings { O.settings output.new ≡ O.settings output.old }
+        ensures sink { SinkKept O.failed O.settings output.old output.new result }
         ensures others { IsSameButFindings self.old self.new }
         ensures counted { OnOk result (self.new.findings
             ≡ min (self.old.findings + spec.findings_in lines.now) spec.most_counted) }
@@ -114,9 +112,7 @@ impl<'a> JudgingRun<'a> {
     /// Tells what is to be told before this time, in ns; without a time all that is.
     fn tell_due<O: Sink>(&mut self, before: Option<u64>, output: &mut O) -> Result<(), RunFault>
         requires sound { O.failed output.old ≡ false }
-        ensures failed { O.failed output.new ≡ is_failed_write result }
-        ensures fault { IfErr result IsOfOutput }
-        ensures settings { O.settings output.new ≡ O.settings output.old }
+        ensures sink { SinkKept O.failed O.settings output.old output.new result }
         ensures begun { (k : Rows × Chosen) (last : Bool) (time to : ℕ)
             (start : Option (List ℕ)) (frames : List Frame) →
             GoesOn k last time to before self.old.streams.ended frames →
@@ -140,9 +136,7 @@ impl<'a> JudgingRun<'a> {
     /// The recordings end at this time, in ns, before which all is told.
     fn close<O: Sink>(&mut self, until: u64, output: &mut O) -> Result<(), RunFault>
         requires sound { O.failed output.old ≡ false }
-        ensures failed { O.failed output.new ≡ is_failed_write result }
-        ensures fault { IfErr result IsOfOutput }
-        ensures settings { O.settings output.new ≡ O.settings output.old }
+        ensures sink { SinkKept O.failed O.settings output.old output.new result }
         ensures begun { (k : Rows × Chosen) (time : ℕ) (start : Option (List ℕ))
             (frames : List Frame) → time ≤ until →
             ((end : ℕ) → k.1.until ≡ Some end → until ≤ end) → self.old.streams.ended ≡ None →
@@ -159,9 +153,7 @@ impl<'a> JudgingRun<'a> {
     /// The recordings end before a line of this time, in ns, if they do and didn't before.
     fn close_before<O: Sink>(&mut self, time: u64, output: &mut O) -> Result<(), RunFault>
         requires sound { O.failed output.old ≡ false }
-        ensures failed { O.failed output.new ≡ is_failed_write result }
-        ensures fault { IfErr result IsOfOutput }
-        ensures settings { O.settings output.new ≡ O.settings output.old }
+        ensures sink { SinkKept O.failed O.settings output.old output.new result }
         ensures begun { (k : Rows × Chosen) (before : ℕ) (start : Option (List ℕ))
             (frames : List Frame) → before ≤ time → latest_of frames ≤ before →
             TellsAll k false before self.old start (O.written output.old) frames →
@@ -187,9 +179,7 @@ impl<'a> JudgingRun<'a> {
     /// The recordings end after the last line, if they didn't before.
     fn close_at_end<O: Sink>(&mut self, output: &mut O) -> Result<(), RunFault>
         requires sound { O.failed output.old ≡ false }
-        ensures failed { O.failed output.new ≡ is_failed_write result }
-        ensures fault { IfErr result IsOfOutput }
-        ensures settings { O.settings output.new ≡ O.settings output.old }
+        ensures sink { SinkKept O.failed O.settings output.old output.new result }
         ensures begun { (k : Rows × Chosen) (start : Option (List ℕ)) (frames : List Frame) →
             TellsAll k false (latest_of frames) self.old start (O.written output.old) frames →
             OnErr result (BeginsAll k frames start (O.written output.new)) }
@@ -212,9 +202,7 @@ impl<'a> JudgingRun<'a> {
     /// held of each stream as came and left in the last window, while the recordings go on.
     fn reach<O: Sink>(&mut self, time: u64, output: &mut O) -> Result<(), RunFault>
         requires sound { O.failed output.old ≡ false }
-        ensures failed { O.failed output.new ≡ is_failed_write result }
-        ensures fault { IfErr result IsOfOutput }
-        ensures settings { O.settings output.new ≡ O.settings output.old }
+        ensures sink { SinkKept O.failed O.settings output.old output.new result }
         ensures begun { (k : Rows × Chosen) (before : ℕ) (start : Option (List ℕ))
             (frames : List Frame) → before ≤ time → latest_of frames ≤ before →
             TellsAll k false before self.old start (O.written output.old) frames →

@@ -1,10 +1,10 @@
 //! Lines that are told, and how many of them are findings.
 
-ghost use Rattle.std.specs.Prelude.{◌≡◌, IfErr, OnErr, OnOk, false, min};
+ghost use Rattle.std.specs.Prelude.{◌≡◌, OnErr, OnOk, false, min};
 ghost use Rattle.std.specs.Io.KnownBytes.{Appends};
 ghost use Rattle.afdx_command_conform.specs.Telling as spec;
-ghost use Rattle.afdx_input_lines.specs.Calls.{AppendsFront, is_failed_write};
-ghost use Rattle.afdx_text.specs.Sinks.{IsOfOutput};
+ghost use Rattle.afdx_input_lines.specs.Calls.{AppendsFront};
+ghost use Rattle.afdx_text.specs.Sinks.{SinkKept};
 
 use afdx_input_lines::RunFault;
 use afdx_text::{ConformLine, OutLine, Sink};
@@ -35,9 +35,7 @@ pub(crate) fn findings_in(lines: &[ConformLine]) -> u64
 /// Puts some lines.
 pub(crate) fn put_lines<O: Sink>(lines: &[ConformLine], output: &mut O) -> Result<(), RunFault>
     requires sound { O.failed output.old ≡ false }
-    ensures failed { O.failed output.new ≡ is_failed_write result }
-    ensures fault { IfErr result IsOfOutput }
-    ensures settings { O.settings output.new ≡ O.settings output.old }
+    ensures sink { SinkKept O.failed O.settings output.old output.new result }
     ensures told { OnOk result (Appends (O.written output.old) (O.written output.new)
         (spec.lines_text lines.now)) }
     ensures begun { OnErr result (AppendsFront (O.written output.old) (O.written output.new)

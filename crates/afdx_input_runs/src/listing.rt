@@ -1,10 +1,10 @@
 //! A recording is written as the frame list that says the same.
 
-ghost use Rattle.std.specs.Prelude.{◌≡◌, ◌||◌, List, ℕ, OnOk, OnErr, IfErr, IfSome, true, false};
+ghost use Rattle.std.specs.Prelude.{◌≡◌, ◌||◌, List, ℕ, OnOk, OnErr, IfSome, true, false};
 ghost use Rattle.std.specs.Io.KnownBytes.{Appends};
 ghost use Rattle.afdx_input_lines.specs.Calls.{AppendsFront, is_failed_read, is_failed_write};
 ghost use Rattle.afdx_input_lines.specs.Watching.{calls_of, device_of, has_ended, has_failed};
-ghost use Rattle.afdx_text.specs.Sinks.{IsOfOutput};
+ghost use Rattle.afdx_text.specs.Sinks.{SinkKept};
 ghost use Rattle.afdx_input_sources.specs.Becoming.{options_of};
 ghost use Rattle.afdx_input_sources.specs.Claims.{ports_of, ports_unsaid};
 ghost use Rattle.afdx_input_runs.specs.ListText as text;
@@ -45,9 +45,7 @@ fn put_number<O: Sink>(
     bytes: &[u8],
 ) -> Result<(), RunFault>
     requires sound { O.failed output.old ≡ false }
-    ensures failed { O.failed output.new ≡ is_failed_write result }
-    ensures fault { IfErr result IsOfOutput }
-    ensures settings { O.settings output.new ≡ O.settings output.old }
+    ensures sink { SinkKept O.failed O.settings output.old output.new result }
     ensures whole { OnOk result (Appends (O.written output.old) (O.written output.new)
         (text.number_text described.now n line.now bytes.now)) }
     ensures front { OnErr result (AppendsFront (O.written output.old) (O.written output.new)

@@ -4,7 +4,7 @@ ghost use Rattle.std.specs.Prelude.{◌≡◌, ◌<◌, ◌⊎◌, ◌∷◌, []
 ghost use Rattle.afdx_input_lines.specs.Calls.{is_failed_write};
 ghost use Rattle.afdx_input_lines.specs.declared.fault.RunFault.{RunFault as Fault};
 ghost use Rattle.afdx_input_sources.specs.Engine.{Bytes, HoldsOfTold, IsReadyFor, Item, item_of, Runs};
-ghost use Rattle.afdx_text.specs.Sinks.{IsOfOutput};
+ghost use Rattle.afdx_text.specs.Sinks.{SinkKept};
 
 use afdx_input_lines::{Next, RunFault};
 use afdx_text::Sink;
@@ -99,9 +99,7 @@ pub trait Machine<H: Head> {
             × Told rules self.old start (O.written output.old) past
             × H.can_follow past (item_of n head.now bytes.now)
             × Can rules (item_of n head.now bytes.now) }
-        ensures failed { O.failed output.new ≡ is_failed_write result }
-        ensures fault { IfErr result IsOfOutput }
-        ensures settings { O.settings output.new ≡ O.settings output.old }
+        ensures sink { SinkKept O.failed O.settings output.old output.new result }
         ensures told { (rules : Rules) (start : Bytes) (past : List (Item H)) →
             Told rules self.old start (O.written output.old) past →
             H.can_follow past (item_of n head.now bytes.now) →
@@ -119,9 +117,7 @@ pub trait Machine<H: Head> {
         requires sound { O.failed output.old ≡ false }
         requires told { (rules : Rules) × (start : Bytes) × (past : List (Item H))
             × Told rules self.old start (O.written output.old) past }
-        ensures failed { O.failed output.new ≡ is_failed_write result }
-        ensures fault { IfErr result IsOfOutput }
-        ensures settings { O.settings output.new ≡ O.settings output.old }
+        ensures sink { SinkKept O.failed O.settings output.old output.new result }
         ensures done { (rules : Rules) (start : Bytes) (past : List (Item H)) →
             Told rules self.old start (O.written output.old) past →
             OnOk result (Done rules self.new start (O.written output.new) past) }

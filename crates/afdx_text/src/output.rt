@@ -8,7 +8,7 @@ ghost use Rattle.afdx_text.specs.Flushing.{HandsOn};
 ghost use Rattle.afdx_text.specs.OutLines.{line_text};
 ghost use Rattle.afdx_text.specs.Outputs.{written, held_bytes, room_of, is_at_once};
 ghost use Rattle.afdx_text.specs.Outputs.{inner_device, device_has_failed};
-ghost use Rattle.afdx_text.specs.Sinks.{IsOfOutput};
+ghost use Rattle.afdx_text.specs.Sinks.{SinkKept};
 
 use crate::line::OutLine;
 use crate::sink::Sink;
@@ -85,11 +85,9 @@ impl<W: Write + Drop> Output<W> {
     #[inline(never)]
     fn make_room(&mut self, more: usize) -> Result<(), RunFault>
         requires { device_has_failed self.old ≡ false }
-        ensures failed { device_has_failed self.new ≡ is_failed_write result }
-        ensures fault { IfErr result IsOfOutput }
+        ensures sink { SinkKept device_has_failed is_at_once self.old self.new result }
         ensures bytes { Keeps (written W.contents self.old) (written W.contents self.new) }
         ensures room { OnOk result (self.new.held.end + more ≤ self.new.held.room.len) }
-        ensures at_once { is_at_once self.new ≡ is_at_once self.old }
     {
         self.hand_over()?;
         self.held.make_room(more)?;
@@ -104,9 +102,7 @@ impl<W: Write + Drop> Output<W> {
             (written W.contents self.new) (line_text line.now)) }
         ensures same { OnErr result
             (Keeps (written W.contents self.old) (written W.contents self.new)) }
-        ensures failed { device_has_failed self.new ≡ is_failed_write result }
-        ensures fault { IfErr result IsOfOutput }
-        ensures at_once { is_at_once self.new ≡ is_at_once self.old }
+        ensures sink { SinkKept device_has_failed is_at_once self.old self.new result }
     {
         let most = line.room_wanted()?;
         if !self.held.has_room(most) {
@@ -158,14 +154,12 @@ impl<W: Write + Drop> Sink for Output<W> {
     #[inline(always)]
     fn put(&mut self, line: &OutLine<'_>) -> Result<(), RunFault>
         requires sound { device_has_failed self.old ≡ false }
-        ensures write { device_has_failed self.new ≡ is_failed_write result }
-        ensures fault { IfErr result IsOfOutput }
+        ensures sink { SinkKept device_has_failed is_at_once self.old self.new result }
         ensures whole { OnOk result (Appends (written W.contents self.old)
             (written W.contents self.new) (line_text line.now)) }
         ensures front { OnErr result (AppendsFront (written W.contents self.old)
             (written W.contents self.new) (line_text line.now)) }
         ensures at_once { is_at_once self.old ≡ true → OnOk result (held_bytes self.new ≡ []) }
-        ensures settings { is_at_once self.new ≡ is_at_once self.old }
     {
         self.hold(line)?;
         if self.is_at_once {

@@ -1,11 +1,11 @@
 //! Where the lines of the output go.
 
-ghost use Rattle.std.specs.Prelude.{◌≡◌, ℕ, Bool, List, Option, OnOk, OnErr, IfErr, false};
+ghost use Rattle.std.specs.Prelude.{◌≡◌, ℕ, Bool, List, Option, OnOk, OnErr, false};
 ghost use Rattle.std.specs.Io.KnownBytes.{Appends};
-ghost use Rattle.afdx_input_lines.specs.Calls.{AppendsFront, is_failed_write};
+ghost use Rattle.afdx_input_lines.specs.Calls.{AppendsFront};
 ghost use Rattle.afdx_input_lines.specs.Watching.{device_of, has_failed};
 ghost use Rattle.afdx_text.specs.OutLines.{line_text};
-ghost use Rattle.afdx_text.specs.Sinks.{IsOfOutput};
+ghost use Rattle.afdx_text.specs.Sinks.{SinkKept};
 
 use crate::line::OutLine;
 use crate::text::Text;
@@ -29,13 +29,11 @@ pub trait Sink {
     /// Puts a line. Where that fails, a beginning of it was put, and the device isn't asked again.
     fn put(&mut self, line: &OutLine<'_>) -> Result<(), RunFault>
         requires sound { failed self.old ≡ false }
-        ensures write { failed self.new ≡ is_failed_write result }
-        ensures fault { IfErr result IsOfOutput }
+        ensures sink { SinkKept failed settings self.old self.new result }
         ensures whole { OnOk result
             (Appends (written self.old) (written self.new) (line_text line.now)) }
         ensures front { OnErr result
-            (AppendsFront (written self.old) (written self.new) (line_text line.now)) }
-        ensures settings { settings self.new ≡ settings self.old };
+            (AppendsFront (written self.old) (written self.new) (line_text line.now)) };
 }
 
 /// Hands each line at once to a device that was lent to it.

@@ -1,6 +1,6 @@
 //! A run that sends the messages of a list.
 
-ghost use Rattle.std.specs.Prelude.{◌≡◌, ◌<◌, ◌≤◌, ◌+◌, ◌⊎◌, ◌∷◌, [], ℕ, List, Option, Some, IfOk, IfErr, IfSome, OnOk, OnErr, length, slice_get, true, false};
+ghost use Rattle.std.specs.Prelude.{◌≡◌, ◌<◌, ◌≤◌, ◌+◌, ◌⊎◌, ◌∷◌, [], ℕ, List, Option, Some, IfOk, IfSome, OnOk, OnErr, length, slice_get, true, false};
 ghost use Rattle.afdx_frame.specs.Times.{latest_listed};
 ghost use Rattle.afdx_input_lines.specs.Lines.{most_lines, most_reads};
 ghost use Rattle.afdx_config.specs.Rows.{SystemRow};
@@ -11,7 +11,7 @@ ghost use Rattle.afdx_send.specs.Sender.{StandsFor, IsQuiet, frames_held, last_t
 ghost use Rattle.afdx_input_sources.specs.Listed.{Handed as HandedSubmission};
 ghost use Rattle.afdx_command_tables.specs.sending.Events.{Event, submissions_in, calls_in};
 ghost use Rattle.afdx_command_tables.specs.sending.Text.{emission_lines, send_counts};
-ghost use Rattle.afdx_text.specs.Sinks.{IsOfOutput};
+ghost use Rattle.afdx_text.specs.Sinks.{SinkKept};
 ghost use Rattle.afdx_command_tables.specs.sending.Sent.{Source, source_at, source_of, WritesSome, Answers};
 ghost use Rattle.afdx_command_tables.specs.sending.Progress.{handed_at, HasTold, AreTold, ToldUntil, TellsSubmission, HasRoom};
 
@@ -44,9 +44,7 @@ fn put_emission<O: Sink>(
     emission: &Emission,
 ) -> Result<(), RunFault>
     requires sound { O.failed output.old ≡ false }
-    ensures failed { O.failed output.new ≡ is_failed_write result }
-    ensures fault { IfErr result IsOfOutput }
-    ensures settings { O.settings output.new ≡ O.settings output.old }
+    ensures sink { SinkKept O.failed O.settings output.old output.new result }
     ensures lines { OnOk result (Appends (O.written output.old) (O.written output.new)
         (emission_lines port.entry.switch.now port.entry.number (sending_of emission.now))) }
     ensures front { OnErr result (AppendsFront (O.written output.old) (O.written output.new)
@@ -134,9 +132,7 @@ impl<'a> Sending<'a> {
         requires room { (n : ℕ) × (n ≤ most_lines) ×
             HasRoom self.old.counts (frames_held self.old.sender) n }
         requires sound { O.failed output.old ≡ false }
-        ensures failed { O.failed output.new ≡ is_failed_write result }
-        ensures fault { IfErr result IsOfOutput }
-        ensures settings { O.settings output.new ≡ O.settings output.old }
+        ensures sink { SinkKept O.failed O.settings output.old output.new result }
         ensures clock { OnOk result (last_time self.new.sender ≡ until) }
         ensures quiet { OnOk result (IsQuiet self.new.sender until) }
         ensures room { (n : ℕ) → HasRoom self.old.counts (frames_held self.old.sender) n →
@@ -209,9 +205,7 @@ impl<'a> Sending<'a> {
         requires room { (m : ℕ) × (m < most_lines) ×
             HasRoom self.old.counts (frames_held self.old.sender) m }
         requires sound { O.failed output.old ≡ false }
-        ensures failed { O.failed output.new ≡ is_failed_write result }
-        ensures fault { IfErr result IsOfOutput }
-        ensures settings { O.settings output.new ≡ O.settings output.old }
+        ensures sink { SinkKept O.failed O.settings output.old output.new result }
         ensures clock { OnOk result (last_time self.new.sender ≡ handed.now.time) }
         ensures room { (m : ℕ) → HasRoom self.old.counts (frames_held self.old.sender) m →
             OnOk result (HasRoom self.new.counts (frames_held self.new.sender) (m + 1)) }

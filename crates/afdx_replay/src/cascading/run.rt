@@ -1,6 +1,6 @@
 //! A run that replays a list through several switches on each side and the systems behind them.
 
-ghost use Rattle.std.specs.Prelude.{◌≡◌, ◌<◌, ◌≤◌, ◌*◌, ◌⊎◌, ◌∷◌, [], ℕ, List, Option, Some, None, IfOk, IfErr, OnOk, OnErr, length, false};
+ghost use Rattle.std.specs.Prelude.{◌≡◌, ◌<◌, ◌≤◌, ◌*◌, ◌⊎◌, ◌∷◌, [], ℕ, List, Option, Some, None, IfOk, OnOk, OnErr, length, false};
 ghost use Rattle.afdx_cascade.specs.Cascade as cascade;
 ghost use Rattle.afdx_cascade.specs.Plans.{plan_of};
 ghost use Rattle.afdx_cascade.specs.Runs.{Line};
@@ -9,10 +9,9 @@ ghost use Rattle.afdx_config.specs.Switches.{NamedRows};
 ghost use Rattle.afdx_input_sources.specs.Items.{arrival_on, most_frames};
 ghost use Rattle.afdx_frame.specs.Seals.{IsSealedAs};
 ghost use Rattle.afdx_frame.specs.Times.{latest_listed};
-ghost use Rattle.afdx_input_lines.specs.Calls.{is_failed_write};
 ghost use Rattle.afdx_input_lines.specs.declared.watched.Watched.{Watched as Device};
 ghost use Rattle.afdx_port.specs.Times.{drain_end};
-ghost use Rattle.afdx_text.specs.Sinks.{IsOfOutput};
+ghost use Rattle.afdx_text.specs.Sinks.{SinkKept};
 ghost use Rattle.afdx_replay.specs.cascading.Ran.{TellerToldAll, TellerToldSome};
 ghost use Rattle.afdx_replay.specs.cascading.Told.{AreFirst, AreInTime, AreSteady, BringsLine, HasTold, ToldUntil};
 
@@ -57,9 +56,7 @@ impl<'a, D: Write> Cascading<'a, D> {
             (O.written output.old) events
             × AreFirst s past until events × (length past ≤ most_frames) }
         requires sound { O.failed output.old ≡ false }
-        ensures failed { O.failed output.new ≡ is_failed_write result }
-        ensures fault { IfErr result IsOfOutput }
-        ensures settings { O.settings output.new ≡ O.settings output.old }
+        ensures sink { SinkKept O.failed O.settings output.old output.new result }
         ensures clock { OnOk result (cascade.IsUntil self.new.cascade until) }
         ensures quiet { OnOk result (cascade.IsQuiet self.new.cascade until) }
         ensures steady { OnOk result (AreSteady self.new.teller.counts) }

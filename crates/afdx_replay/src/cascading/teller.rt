@@ -1,7 +1,7 @@
 //! What is told of an event of several switches: its lines are put, it is counted, and by how much
 //! a frame came too early is told to whom asks.
 
-ghost use Rattle.std.specs.Prelude.{◌≡◌, ℕ, ◌<◌, ◌≤◌, ◌∷◌, [], List, Option, IfOk, OnOk, OnErr, IfErr, length, None, false};
+ghost use Rattle.std.specs.Prelude.{◌≡◌, ℕ, ◌<◌, ◌≤◌, ◌∷◌, [], List, Option, IfOk, OnOk, OnErr, length, None, false};
 ghost use Rattle.afdx_cascade.specs.Cascade.{TellsArrival, TellsEvent};
 ghost use Rattle.afdx_cascade.specs.Plans.{plan_of};
 ghost use Rattle.afdx_cascade.specs.Runs.{event_at};
@@ -9,12 +9,12 @@ ghost use Rattle.afdx_cascade.specs.SwitchEvents.{SwitchEvent};
 ghost use Rattle.afdx_cascade.specs.Turning.{IsSent};
 ghost use Rattle.afdx_command_tables.specs.Counts.{no_counts};
 ghost use Rattle.afdx_config.specs.Switches.{AreSwitches};
-ghost use Rattle.afdx_input_lines.specs.Calls.{AppendsFront, is_failed_write};
+ghost use Rattle.afdx_input_lines.specs.Calls.{AppendsFront};
 ghost use Rattle.afdx_input_lines.specs.declared.watched.Watched.{Watched as Device};
 ghost use Rattle.afdx_network.specs.Events.{Departure, Left};
 ghost use Rattle.afdx_network.specs.Network as network;
 ghost use Rattle.std.specs.Io.KnownBytes.{Appends};
-ghost use Rattle.afdx_text.specs.Sinks.{IsOfOutput};
+ghost use Rattle.afdx_text.specs.Sinks.{SinkKept};
 ghost use Rattle.afdx_replay.specs.replaying.Replayed.{AreLow};
 ghost use Rattle.afdx_replay.specs.cascading.Early.{HearsEarly};
 ghost use Rattle.afdx_replay.specs.cascading.Text.{event_lines};
@@ -88,9 +88,7 @@ impl<'a, D: Write> Teller<'a, D> {
         requires fits { IsFor self.old.switches.now self.old }
         requires low { AreLow self.old.counts }
         requires sound { O.failed output.old ≡ false }
-        ensures failed { O.failed output.new ≡ is_failed_write result }
-        ensures fault { IfErr result IsOfOutput }
-        ensures settings { O.settings output.new ≡ O.settings output.old }
+        ensures sink { SinkKept O.failed O.settings output.old output.new result }
         ensures fits { OnOk result (IsFor self.old.switches.now self.new) }
         ensures steady { AreSteady self.old.counts → OnOk result (AreSteady self.new.counts) }
         ensures early { self.new.early ≡ self.old.early }
@@ -132,9 +130,7 @@ impl<'a, D: Write> Teller<'a, D> {
         requires fits { IsFor self.old.switches.now self.old }
         requires low { AreLow self.old.counts }
         requires sound { O.failed output.old ≡ false }
-        ensures failed { O.failed output.new ≡ is_failed_write result }
-        ensures fault { IfErr result IsOfOutput }
-        ensures settings { O.settings output.new ≡ O.settings output.old }
+        ensures sink { SinkKept O.failed O.settings output.old output.new result }
         ensures fits { OnOk result (IsFor self.old.switches.now self.new) }
         ensures steady { AreSteady self.old.counts → OnOk result (AreSteady self.new.counts) }
         ensures early { self.new.early ≡ self.old.early }
@@ -167,9 +163,7 @@ impl<'a, D: Write> Teller<'a, D> {
         requires fits { IsFor self.old.switches.now self.old }
         requires low { AreLow self.old.counts }
         requires sound { O.failed output.old ≡ false }
-        ensures failed { O.failed output.new ≡ is_failed_write result }
-        ensures fault { IfErr result IsOfOutput }
-        ensures settings { O.settings output.new ≡ O.settings output.old }
+        ensures sink { SinkKept O.failed O.settings output.old output.new result }
         ensures fits { OnOk result (IsFor self.old.switches.now self.new) }
         ensures steady { AreSteady self.old.counts → OnOk result (AreSteady self.new.counts) }
         ensures told { (before : List SwitchEvent) (h : SwitchEvent) →
@@ -213,9 +207,7 @@ impl<'a, D: Write> Teller<'a, D> {
         requires fits { IsFor self.old.switches.now self.old }
         requires low { AreLow self.old.counts }
         requires sound { O.failed output.old ≡ false }
-        ensures failed { O.failed output.new ≡ is_failed_write result }
-        ensures fault { IfErr result IsOfOutput }
-        ensures settings { O.settings output.new ≡ O.settings output.old }
+        ensures sink { SinkKept O.failed O.settings output.old output.new result }
         ensures fits { OnOk result (IsFor self.old.switches.now self.new) }
         ensures steady { AreSteady self.old.counts → OnOk result (AreSteady self.new.counts) }
         ensures told { (before : List SwitchEvent) (h : SwitchEvent) →

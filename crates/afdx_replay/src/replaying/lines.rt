@@ -1,10 +1,10 @@
 //! The lines of the events of a replay.
 
-ghost use Rattle.std.specs.Prelude.{◌≡◌, List, ◌++◌, ◌≤◌, ◌∷◌, OnOk, OnErr, IfOk, IfErr, length, false};
+ghost use Rattle.std.specs.Prelude.{◌≡◌, List, ◌++◌, ◌≤◌, ◌∷◌, OnOk, OnErr, IfOk, length, false};
 ghost use Rattle.afdx_frame.specs.Ports.{last_port};
 ghost use Rattle.std.specs.Io.KnownBytes.{Appends};
-ghost use Rattle.afdx_input_lines.specs.Calls.{AppendsFront, is_failed_write};
-ghost use Rattle.afdx_text.specs.Sinks.{IsOfOutput};
+ghost use Rattle.afdx_input_lines.specs.Calls.{AppendsFront};
+ghost use Rattle.afdx_text.specs.Sinks.{SinkKept};
 ghost use Rattle.afdx_config.specs.Rows.{Rows};
 ghost use Rattle.afdx_end_systems.specs.Handovers.{HandedOver, handed_over};
 ghost use Rattle.afdx_end_systems.specs.Receptions.{reception_line, is_delivered};
@@ -43,9 +43,7 @@ fn put_losses<O: Sink>(
     lost: &PortSet,
 ) -> Result<u64, RunFault>
     requires sound { O.failed output.old ≡ false }
-    ensures failed { O.failed output.new ≡ is_failed_write result }
-    ensures fault { IfErr result IsOfOutput }
-    ensures settings { O.settings output.new ≡ O.settings output.old }
+    ensures sink { SinkKept O.failed O.settings output.old output.new result }
     ensures lines { OnOk result (Appends (O.written output.old) (O.written output.new)
         (loss_lines n (site_text site.entry) (ports_in lost.now))) }
     ensures front { OnErr result (AppendsFront (O.written output.old) (O.written output.new)
@@ -77,9 +75,7 @@ pub(crate) fn put_admission<O: Sink>(
     verdict: &Verdict,
 ) -> Result<u64, RunFault>
     requires sound { O.failed output.old ≡ false }
-    ensures failed { O.failed output.new ≡ is_failed_write result }
-    ensures fault { IfErr result IsOfOutput }
-    ensures settings { O.settings output.new ≡ O.settings output.old }
+    ensures sink { SinkKept O.failed O.settings output.old output.new result }
     ensures lines { OnOk result (Appends (O.written output.old) (O.written output.new)
         (verdict_line n (site_text site.entry) (reason_in verdict.now)
         ++ loss_lines n (site_text site.entry) (lost_in verdict.now))) }
@@ -105,9 +101,7 @@ pub(crate) fn put_departure<O: Sink>(
     departed: &Departed,
 ) -> Result<(), RunFault>
     requires sound { O.failed output.old ≡ false }
-    ensures failed { O.failed output.new ≡ is_failed_write result }
-    ensures fault { IfErr result IsOfOutput }
-    ensures settings { O.settings output.new ≡ O.settings output.old }
+    ensures sink { SinkKept O.failed O.settings output.old output.new result }
     ensures line { let left = as_given departed.now.departure in
         OnOk result (Appends (O.written output.old) (O.written output.new)
         (departure_line left.too_old left.item.tag left.end
@@ -147,9 +141,7 @@ pub(crate) fn hear<O: Sink>(
     output: &mut O,
 ) -> Result<Heard, RunFault>
     requires sound { O.failed output.old ≡ false }
-    ensures failed { O.failed output.new ≡ is_failed_write result }
-    ensures fault { IfErr result IsOfOutput }
-    ensures settings { O.settings output.new ≡ O.settings output.old }
+    ensures sink { SinkKept O.failed O.settings output.old output.new result }
     ensures stands { (t : Rows) (before : List HandedOver) → StandsFor t systems.old before →
         StandsFor t systems.new (handed_over handover.entry ∷ before) }
     ensures delivered { (t : Rows) (before : List HandedOver) → StandsFor t systems.old before →

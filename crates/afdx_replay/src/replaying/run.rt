@@ -1,7 +1,7 @@
 //! A run that replays a list through the switches of both sides and the systems behind them, and
 //! tells by how much frames came too early.
 
-ghost use Rattle.std.specs.Prelude.{◌≡◌, ℕ, ◌+◌, ◌-◌, ◌≤◌, [], List, Option, OnOk, OnErr, IfOk, IfErr, IfSome, true, false};
+ghost use Rattle.std.specs.Prelude.{◌≡◌, ℕ, ◌+◌, ◌-◌, ◌≤◌, [], List, Option, OnOk, OnErr, IfOk, IfSome, true, false};
 ghost use Rattle.afdx_port.specs.Times.{drain_end};
 ghost use Rattle.afdx_frame.specs.Ports.{last_port};
 ghost use Rattle.afdx_input_lines.specs.Lines.{most_reads};
@@ -16,7 +16,7 @@ ghost use Rattle.afdx_network.specs.Network as network;
 ghost use Rattle.afdx_input_lines.specs.Watching.{calls_of, device_of, has_ended, has_failed};
 ghost use Rattle.afdx_replay.specs.replaying.DefinedRun.{DefinedAnswers};
 ghost use Rattle.afdx_replay.specs.replaying.Replayed.{WritesSome, Answers, ToldAll, TellsDeparture, HasRoom};
-ghost use Rattle.afdx_text.specs.Sinks.{IsOfOutput};
+ghost use Rattle.afdx_text.specs.Sinks.{SinkKept};
 ghost use Rattle.afdx_replay.specs.replaying.Text.{replay_counts, frames_left, lines_after, with_admission};
 
 use crate::replaying::explained::explain;
@@ -88,9 +88,7 @@ impl<D: Write> Replay<D> {
         requires clock { network.IsUntil self.old.network until }
         requires room { (n : ℕ) × (n ≤ most_frames) × HasRoomFor self.old n }
         requires sound { O.failed output.old ≡ false }
-        ensures failed { O.failed output.new ≡ is_failed_write result }
-        ensures fault { IfErr result IsOfOutput }
-        ensures settings { O.settings output.new ≡ O.settings output.old }
+        ensures sink { SinkKept O.failed O.settings output.old output.new result }
         ensures early { self.new.early ≡ self.old.early }
         ensures clock { network.IsUntil self.new.network until }
         ensures quiet { OnOk result (network.IsQuiet self.new.network until) }
@@ -129,9 +127,7 @@ impl<D: Write> Replay<D> {
         requires clock { network.IsUntil self.old.network heading.now.time }
         requires room { (m : ℕ) × (m < most_frames) × HasRoomFor self.old m }
         requires sound { O.failed output.old ≡ false }
-        ensures failed { O.failed output.new ≡ is_failed_write result }
-        ensures fault { IfErr result IsOfOutput }
-        ensures settings { O.settings output.new ≡ O.settings output.old }
+        ensures sink { SinkKept O.failed O.settings output.old output.new result }
         ensures early { self.new.early ≡ self.old.early }
         ensures clock { OnOk result (network.IsUntil self.new.network heading.now.time) }
         ensures room { (m : ℕ) → HasRoomFor self.old m → OnOk result (HasRoomFor self.new (m + 1)) }

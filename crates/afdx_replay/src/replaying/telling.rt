@@ -1,16 +1,16 @@
 //! What is told of an event at a switch: its lines are put, and it is counted.
 
-ghost use Rattle.std.specs.Prelude.{◌≡◌, ℕ, ◌+◌, ◌++◌, ◌≤◌, List, OnOk, OnErr, IfOk, IfErr, length, false};
+ghost use Rattle.std.specs.Prelude.{◌≡◌, ℕ, ◌+◌, ◌++◌, ◌≤◌, List, OnOk, OnErr, IfOk, length, false};
 ghost use Rattle.std.specs.Io.KnownBytes.{Appends};
 ghost use Rattle.afdx_frame.specs.Ports.{last_port};
 ghost use Rattle.afdx_config.specs.Rows.{Rows};
-ghost use Rattle.afdx_input_lines.specs.Calls.{AppendsFront, is_failed_write};
+ghost use Rattle.afdx_input_lines.specs.Calls.{AppendsFront};
 ghost use Rattle.afdx_end_systems.specs.StandsFor as hearing;
 ghost use Rattle.afdx_network.specs.Events.{Event, Departure, Left};
 ghost use Rattle.afdx_network.specs.Network as network;
 ghost use Rattle.afdx_network.specs.Network.{reason_in, lost_in};
 ghost use Rattle.afdx_text.specs.OutLines.{site_text, verdict_line};
-ghost use Rattle.afdx_text.specs.Sinks.{IsOfOutput};
+ghost use Rattle.afdx_text.specs.Sinks.{SinkKept};
 ghost use Rattle.afdx_replay.specs.replaying.Replayed.{AreLow, HasRoom, TellsDeparture};
 ghost use Rattle.afdx_replay.specs.replaying.Text.{frames_left, lines_at, loss_lines};
 ghost use Rattle.afdx_replay.specs.replaying.Text.{with_admission};
@@ -50,9 +50,7 @@ pub(crate) fn tell_verdict<O: Sink>(
 ) -> Result<Option<Reason>, RunFault>
     requires low { AreLow counts.old }
     requires sound { O.failed output.old ≡ false }
-    ensures failed { O.failed output.new ≡ is_failed_write result }
-    ensures fault { IfErr result IsOfOutput }
-    ensures settings { O.settings output.new ≡ O.settings output.old }
+    ensures sink { SinkKept O.failed O.settings output.old output.new result }
     ensures lines { OnOk result (Appends (O.written output.old) (O.written output.new)
         (verdict_line n (site_text site.entry) (reason_in verdict.now)
         ++ loss_lines n (site_text site.entry) (lost_in verdict.now))) }
@@ -83,9 +81,7 @@ pub(crate) fn tell_departure<M, O: Sink>(
 ) -> Result<(), RunFault>
     requires low { AreLow counts.old }
     requires sound { O.failed output.old ≡ false }
-    ensures failed { O.failed output.new ≡ is_failed_write result }
-    ensures fault { IfErr result IsOfOutput }
-    ensures settings { O.settings output.new ≡ O.settings output.old }
+    ensures sink { SinkKept O.failed O.settings output.old output.new result }
     ensures room { (n held : ℕ) →
         HasRoom counts.old (held + 1) n → OnOk result (HasRoom counts.new held n) }
     ensures accepted { OnOk result (counts.new.accepted ≡ counts.old.accepted) }

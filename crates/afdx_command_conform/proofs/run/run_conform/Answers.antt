@@ -59,7 +59,7 @@ returns-in_err-put-clause-answer g c =
     (g.A.SeenFrames.Takes c.args.options (ports_of_one c.args.tables.now) bytes c.tell_all.new.self) k
     c.args.choices.now.is_lossy
     c.tell_all.new.machine old (g.O.Sink.written c.tell_all.new.output) (g.O.Sink.written c.put.new.self)
-    c.in_ok-count.count c.totals-totals.result c.in_err-put.field-0.0 c.in_err-put.ensures.fault
+    c.in_ok-count.count c.totals-totals.result c.in_err-put.field-0.0 c.in_err-put.ensures.sink.fault
     (c.totals-totals.ensures.written k old (g.O.Sink.written c.tell_all.new.output))
     (sym c.fault_behind.ensures ∙ c.in_default.is)
     (subst (λ (l : ConformLine). AppendsFront (g.O.Sink.written c.tell_all.new.output) (g.O.Sink.written c.put.new.self)

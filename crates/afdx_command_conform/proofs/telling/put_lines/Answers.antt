@@ -13,8 +13,8 @@ loop-line-init g c = record {
 
 pub loop-line-preserved : goal.loop-line-preserved
 loop-line-preserved g c = record {
-  sound = c.in_ok-put.ensures.write;
-  settings = c.put.ensures.settings ∙ c.loop-line.invariant.settings;
+  sound = c.in_ok-put.ensures.sink.failed;
+  settings = c.put.ensures.sink.settings ∙ c.loop-line.invariant.settings;
   told = told-next _ _ _ c.args.lines.now c.loop-line.line-index _ c.loop-line-test.true
       c.loop-line.invariant.told c.in_ok-put.ensures.whole;
 }

@@ -48,10 +48,10 @@ loop-source-preserved g c =
     (c.in_ok-next.ensures.settings ∙ i.3) item.2 in
     let old = g.O.Sink.written c.args.output.now in (
       g.S.Source.current c.next.new.self ∷ i.0,
-      c.in_ok-tell.ensures.failed,
+      c.in_ok-tell.ensures.sink.failed,
       item.0,
       c.in_ok-next.ensures.settings ∙ i.3,
-      c.tell.ensures.settings ∙ i.4,
+      c.tell.ensures.sink.settings ∙ i.4,
       λ law start can. subst (λ x. g.M.Machine.Told law c.tell.new.self old
           (g.O.Sink.written c.tell.new.output) (x ∷ i.0)) same
           (c.in_ok-tell.ensures.told law old i.0 (i.5 law start can)
@@ -70,7 +70,7 @@ returns-in_err-tell-clause-answer g c law start can =
     rw e (
       g.S.Source.current c.next.new.self ∷ i.0,
       inr (
-        c.in_err-tell.ensures.fault,
+        c.in_err-tell.ensures.sink.fault,
         inl item.0,
         told-some (g.M.Machine.Begins law c.tell.new.self (g.O.Sink.written c.args.output.now)
             (g.O.Sink.written c.tell.new.output)) i.0 same begins,
@@ -93,4 +93,4 @@ returns-clause-answer g c law start can =
     runs-ended _ _ _ _ _ _ i.0 _
     (c.in_ok-next.ensures.end c.args.input.now i.0 i.2 (search rules))
     (λ a e. rw e at (c.end.ensures.done law old i.0 (i.5 law start can)))
-    (λ fault e. (rw e at c.end.ensures.fault, rw e at (c.end.ensures.begins law old i.0 (i.5 law start can))))
+    (λ fault e. (rw e at c.end.ensures.sink.fault, rw e at (c.end.ensures.begins law old i.0 (i.5 law start can))))

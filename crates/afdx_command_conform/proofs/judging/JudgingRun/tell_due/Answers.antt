@@ -47,8 +47,8 @@ returns-in_err-tell_lines-clause-begun g c = λ k last time to start frames on h
 
 pub loop-lines-preserved : goal.loop-lines-preserved
 loop-lines-preserved g c = record {
-  sound = c.in_ok-tell_lines.ensures.failed;
-  settings = c.tell_lines.ensures.settings ∙ c.loop-lines.invariant.settings;
+  sound = c.in_ok-tell_lines.ensures.sink.failed;
+  settings = c.tell_lines.ensures.sink.settings ∙ c.loop-lines.invariant.settings;
   stands = λ k last time start frames up early h.
       let old = c.loop-lines.invariant.stands k last time start frames up early h in
       let l = c.in-Some.lines in (

@@ -37,8 +37,8 @@ loop-place-preserved g c =
       | then-holds+in_ok-put w ↦
           let is = sym w.if-holds.true ∙ c.holds.ensures.held in
           rw (w.output-is, w.count-is) (record {
-            sound = w.in_ok-put.ensures.write;
-            settings = w.put.ensures.settings ∙ inv.settings;
+            sound = w.in_ok-put.ensures.sink.failed;
+            settings = w.put.ensures.sink.settings ∙ inv.settings;
             lines = lines-more c.args.n (site_text c.args.site) (holds c.args.lost.now) c.loop-place.place true
                 _ _ _ c.loop-place-test.true is inv.lines w.in_ok-put.ensures.whole;
             count = count-more (holds c.args.lost.now) c.loop-place.place true c.loop-place.count 1 _

@@ -11,8 +11,8 @@ pub loop-emission-preserved : goal.loop-emission-preserved
 loop-emission-preserved g c =
     record {
       clock = omega (arith, c.emit.ensures.clock, ap (λ w. last_time w) c.give_back.ensures);
-      sound = c.in_ok-put_emission.ensures.failed;
-      settings = c.put_emission.ensures.settings ∙ c.loop-emission.invariant.settings;
+      sound = c.in_ok-put_emission.ensures.sink.failed;
+      settings = c.put_emission.ensures.sink.settings ∙ c.loop-emission.invariant.settings;
       room = λ n h.
           let r = c.loop-emission.invariant.room n h in
           let held = rw c.in-Some.is at c.in_ok-emission.ensures.held in

@@ -95,8 +95,8 @@ loop-happened-preserved g c =
     } in
     record {
       clock = steps-clock _ _ _ _ _ _ _ _ _ _ _ c.in-Some.happened step c.requires.room;
-      sound = c.in_ok-tell_event.ensures.failed;
-      settings = c.tell_event.ensures.settings ∙ c.loop-happened.invariant.settings;
+      sound = c.in_ok-tell_event.ensures.sink.failed;
+      settings = c.tell_event.ensures.sink.settings ∙ c.loop-happened.invariant.settings;
       steady = c.in_ok-tell_event.ensures.steady c.loop-happened.invariant.steady;
       told = steps-told _ _ _ _ _ _ _ _ _ _ _ c.in-Some.happened step;
     }

@@ -106,7 +106,7 @@ tell_arrival-requires g c =
       low = step-low g.D.Write.contents r.0.0 w t r.0.1 r.1 middle (lines_in r.2) x.head.time told.events told.told
           told.first (lines-few r.2 r.3.few)
           (subst (λ z. AreSteady z.counts) (sym c.arrive.ensures.teller) c.in_ok-tell_events.ensures.steady);
-      sound = c.in_ok-tell_events.ensures.failed;
+      sound = c.in_ok-tell_events.ensures.sink.failed;
     }
 
 pub returns-clause-told : goal.returns-clause-told

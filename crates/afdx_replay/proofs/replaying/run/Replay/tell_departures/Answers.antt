@@ -20,8 +20,8 @@ pub loop-departed-preserved : goal.loop-departed-preserved
 loop-departed-preserved g c =
     record {
       clock = c.take.ensures.clock;
-      sound = c.in_ok-tell_departure.ensures.failed;
-      settings = c.tell_departure.ensures.settings ∙ c.loop-departed.invariant.settings;
+      sound = c.in_ok-tell_departure.ensures.sink.failed;
+      settings = c.tell_departure.ensures.sink.settings ∙ c.loop-departed.invariant.settings;
       early = c.loop-departed.invariant.early;
       room = λ n h.
           c.in_ok-tell_departure.ensures.room n (network.frames_held c.take.new.self)
