@@ -123,14 +123,13 @@ impl<R: Read> Arrivals<RecordingOptions> for Watched<Peeked<R>> {
 
 impl<R: Read> Arrivals<PairOptions> for BySide<Watched<R>> {
     ghost use Rattle.afdx_input_runs.specs.Arrivals.{AreNewTwo, IsAskedForEach, TakesTwo};
-    ghost use Rattle.afdx_input_runs.specs.Over.{both};
+    ghost use Rattle.afdx_input_runs.specs.Over.{bytes_of_both};
 
     ghost IsNew = { AreNewTwo };
 
     ghost Bytes = { List ℕ × List ℕ };
 
-    ghost known = { λ inputs. both (R.remaining (device_of inputs.a))
-        (R.remaining (device_of inputs.b)) };
+    ghost known = { bytes_of_both R.remaining };
 
     ghost IsAskedFew = { IsAskedForEach R.remaining };
 

@@ -8,7 +8,6 @@ mod input_run;
 pub mod laws;
 mod listing;
 mod over;
-mod over_roles;
 mod read_pair;
 mod reading;
 mod recording_run;

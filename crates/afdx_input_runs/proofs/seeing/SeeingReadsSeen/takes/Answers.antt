@@ -1,5 +1,5 @@
 use Rattle.afdx_input_runs.proofs.SeeingLemmas.{frames-taken}
-use Rattle.afdx_input_runs.proofs.over_roles.SeeingReadsSeen.takes.Goals as goal
+use Rattle.afdx_input_runs.proofs.seeing.SeeingReadsSeen.takes.Goals as goal
 
 pub returns : goal.returns
 returns g c start input source bytes e set =

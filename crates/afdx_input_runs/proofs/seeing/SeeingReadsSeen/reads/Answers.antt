@@ -1,4 +1,4 @@
-use Rattle.afdx_input_runs.proofs.over_roles.SeeingReadsSeen.reads.Goals as goal
+use Rattle.afdx_input_runs.proofs.seeing.SeeingReadsSeen.reads.Goals as goal
 
 pub returns-clause-gave : goal.returns-clause-gave
 returns-clause-gave g c start input source past k =
