@@ -83,7 +83,8 @@ returns-in-Some-First-clause-item g c start past p ok =
     one c.seek-2.new.ahead c.seek-2.new.input Second q known_too.0
     known_too.2 in
     rw (is_two, is_one) (take-first g.H.InOrder.order g.H.Head.can_follow c.keeps.ensures
-    g.S.Source.current g.S.Source.Gave g.S.Source.Ended start past (inputs_of c.seek.new.input c.seek-2.new.input) Second First
+    g.S.Source.current g.S.Source.Gave g.S.Source.Ended start past
+    (inputs_of c.seek.new.input c.seek-2.new.input) Second First
     c.seek.new.ahead.source c.seek-2.new.ahead.source c.seek.new.ahead.head c.seek-2.new.ahead.head
     known.1 known_too.1 (search rules) r)
 
@@ -110,7 +111,8 @@ returns-in-Some-Second-clause-item g c start past p ok =
     one c.seek-2.new.ahead c.seek-2.new.input Second q known_too.0
     known_too.2 in
     rw (is_two, is_one) (take-second g.H.InOrder.order g.H.Head.can_follow c.keeps.ensures
-    g.S.Source.current g.S.Source.Gave g.S.Source.Ended start past (inputs_of c.seek.new.input c.seek-2.new.input) Second Second
+    g.S.Source.current g.S.Source.Gave g.S.Source.Ended start past
+    (inputs_of c.seek.new.input c.seek-2.new.input) Second Second
     c.seek.new.ahead.source c.seek-2.new.ahead.source c.seek.new.ahead.head c.seek-2.new.ahead.head
     known.1 known_too.1 (search rules) r)
 
@@ -137,6 +139,7 @@ returns-in-None-clause-end g c start past p ok =
     one c.seek-2.new.ahead c.seek-2.new.input Second q known_too.0
     known_too.2 in
     rw (is_two, is_one) (take-none g.H.InOrder.order g.H.Head.can_follow c.keeps.ensures
-    g.S.Source.current g.S.Source.Gave g.S.Source.Ended start past (inputs_of c.seek.new.input c.seek-2.new.input) Second Second
+    g.S.Source.current g.S.Source.Gave g.S.Source.Ended start past
+    (inputs_of c.seek.new.input c.seek-2.new.input) Second Second
     c.seek.new.ahead.source c.seek-2.new.ahead.source c.seek.new.ahead.head c.seek-2.new.ahead.head
     known.1 known_too.1 (search rules) r)
