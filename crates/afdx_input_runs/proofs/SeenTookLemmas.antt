@@ -47,7 +47,7 @@ module _ (done told begins : List (Item Seen) → Type 0) where
   -- a run took the frames of some items, and told of them what its answer says
   abbrev pub Took : (takes : List Frame → Result SeenCount RunFault → Type 0) →
       Result SeenCount RunFault → Type 0
-  Took takes answer = TookAndTold frames_of takes answer done told begins
+  Took takes answer = TookAndTold (λ items. takes (frames_of items)) answer done told begins
 
   -- ---- of recordings
 

@@ -55,7 +55,7 @@ module _ (done told begins : List (Item Heading) → Type 0) where
   -- a run took the arrivals of some items, and told of them what its answer says
   abbrev pub Took : (takes : List Arrival → Result InputCount RunFault → Type 0) →
       Result InputCount RunFault → Type 0
-  Took takes answer = TookAndTold arrivals takes answer done told begins
+  Took takes answer = TookAndTold (λ items. takes (arrivals items)) answer done told begins
 
   -- ---- of recordings
 

@@ -38,13 +38,12 @@ abbrev pub By : {X : Type 0} → Result X RunFault → (all so_far some : Type 0
 By (Ok x) all so_far some = all
 By (Err fault) all so_far some = ByCause (cause_of fault) so_far some
 
--- A run with this answer has taken what some items say, and by the answer these were told: to the
--- end, all of them, or all or a beginning.
-abbrev pub TookAndTold : {H T X : Type 0} → (say : List (Item H) → List T) →
-    (takes : List T → Result X RunFault → Type 0) → Result X RunFault →
-    (done told begins : List (Item H) → Type 0) → Type 0
-TookAndTold {H} say takes answer done told begins =
-    (items : List (Item H)) × takes (say items) answer
+-- A run with this answer has taken some items, and by the answer these were told: to the end, all
+-- of them, or all or a beginning.
+abbrev pub TookAndTold : {H X : Type 0} → (takes : List (Item H) → Result X RunFault → Type 0) →
+    Result X RunFault → (done told begins : List (Item H) → Type 0) → Type 0
+TookAndTold {H} takes answer done told begins =
+    (items : List (Item H)) × takes items answer
     × By answer (done items) (told items) (told items ⊎ begins items)
 
 -- ---- with this answer a run has taken these arrivals

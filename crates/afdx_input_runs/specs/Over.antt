@@ -9,6 +9,7 @@ use Rattle.afdx_input_sources.specs.Causes.{Cause, cause_of, FailedRead, FailedW
 use Rattle.afdx_input_sources.specs.Engine.{Item}
 use Rattle.afdx_input_sources.specs.Becoming.{options_of}
 use Rattle.afdx_input_sources.specs.Claims.{ports_of}
+use Rattle.afdx_input_sources.specs.MergedSource.{inputs_by_role}
 use Rattle.afdx_input_sources.specs.NumberLines.{AreItems, Lines}
 use Rattle.afdx_input_sources.specs.OrderedRecording.{OrderedRecording}
 use Rattle.afdx_input_sources.specs.Ordering.{Sequence}
@@ -93,10 +94,14 @@ both (Some a) None = None
 both None b = None
 
 -- the bytes that two inputs still give, where both are known
+abbrev pub bytes_of_both : {R : Type 0} → (R → Option (List ℕ)) → (inputs : BySide (Watched R)) →
+    Option (List ℕ × List ℕ)
+bytes_of_both remaining inputs =
+    both (remaining (device_of inputs.a)) (remaining (device_of inputs.b))
+
 abbrev pub bytes_by_role : {R : Type 0} → (R → Option (List ℕ)) → (inputs : ByRole (Watched R)) →
     Option (List ℕ × List ℕ)
-bytes_by_role remaining inputs =
-    both (remaining (device_of inputs.came)) (remaining (device_of inputs.left))
+bytes_by_role remaining inputs = bytes_of_both remaining (inputs_by_role inputs)
 
 abbrev pub way_of_two : TimedPair OrderedRecording → Set × Set × Option ℕ
 way_of_two source =

@@ -5,10 +5,10 @@
 
 mod arrivals;
 mod input_run;
+mod inputs;
 pub mod laws;
 mod listing;
 mod over;
-mod over_roles;
 mod read_pair;
 mod reading;
 mod recording_run;
@@ -16,15 +16,17 @@ mod seeing;
 mod seen;
 mod seen_frames;
 mod seen_run;
+mod tapping;
 mod two_lists;
 mod two_lists_run;
 
-pub use arrivals::Arrivals;
 pub use input_run::{InputCount, run_input};
+pub use inputs::{RunHead, RunInput};
 pub use listing::{list_pair, list_recording};
 pub use over::Input;
 pub use reading::Reading;
 pub use recording_run::{run_pair, run_recording};
 pub use seen::Seen;
-pub use seen_frames::{AsLists, SeenCount, SeenFrames};
+pub use seen_frames::SeenCount;
+pub use tapping::{AsLists, Tapping};
 pub use two_lists_run::run_two_lists;

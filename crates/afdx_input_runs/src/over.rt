@@ -14,10 +14,10 @@ ghost use Rattle.afdx_input_runs.specs.TakenRun.{TakenAnswers};
 ghost use Rattle.afdx_input_sources.specs.declared.counts.Tally.{Tally as Counted};
 
 use afdx_frame::BySide;
-use afdx_input_lines::{Heading, RunFault, Watched};
+use afdx_input_lines::{ByRole, Heading, RunFault, Watched};
 use afdx_input_sources::{
     Arriving, Head, Machine, NumberLine, Ordered, ReadRecording, Source, Tally, TimedNumbers,
-    TimedPair, drive,
+    TimedPair, Two, drive,
 };
 use afdx_text::Sink;
 use std::io::Read;
@@ -49,6 +49,37 @@ impl<R: Read> Input for BySide<Watched<R>> {
 
     ghost asked = { λ first last.
         IsAsked R.remaining first.a last.a × IsAsked R.remaining first.b last.b };
+}
+
+impl<R: Read> Input for ByRole<Watched<R>> {
+    ghost failed = { λ inputs. has_failed inputs.came || has_failed inputs.left };
+
+    ghost ended = { λ inputs.
+        (has_ended inputs.came ≡ true) × (has_ended inputs.left ≡ true) };
+
+    ghost asked = { λ first last. IsAsked R.remaining first.came last.came
+        × IsAsked R.remaining first.left last.left };
+}
+
+/// Two inputs at once: what is true of them is so by what is true of each.
+pub trait TwoInputs<R: Read>: Two<Part = Watched<R>> + Input {
+    /// A read failed where one of either did; both were read, and asked, where each was.
+    fn agrees()
+        ensures failed { (inputs : Self) → Self.failed inputs
+            ≡ (has_failed (Self.both inputs).a || has_failed (Self.both inputs).b) }
+        ensures ended { (inputs : Self) → has_ended (Self.both inputs).a ≡ true →
+            has_ended (Self.both inputs).b ≡ true → Self.ended inputs }
+        ensures asked { (first last : Self) →
+            IsAsked R.remaining (Self.both first).a (Self.both last).a →
+            IsAsked R.remaining (Self.both first).b (Self.both last).b → Self.asked first last };
+}
+
+impl<R: Read> TwoInputs<R> for BySide<Watched<R>> {
+    fn agrees() {}
+}
+
+impl<R: Read> TwoInputs<R> for ByRole<Watched<R>> {
+    fn agrees() {}
 }
 
 /// What lines of recordings stand for.
@@ -170,15 +201,15 @@ impl<R: Read> Reads<NumberLine, Watched<R>> for TimedNumbers<Ordered<ReadRecordi
     fn takes() {}
 }
 
-impl<R: Read> Reads<NumberLine, BySide<Watched<R>>> for TimedPair<Ordered<ReadRecording>> {
+impl<R: Read, P: TwoInputs<R> + Two<Part = Watched<R>>> Reads<NumberLine, P>
+    for TimedPair<Ordered<ReadRecording>> {
     ghost use Rattle.afdx_input_sources.specs.Counting.{IsFew, plus_tally};
     ghost use Rattle.afdx_input_sources.specs.OrderedRecording.{tally_of_source};
-    ghost use Rattle.afdx_input_runs.specs.Over.{both, Set, IsSetTwo, way_of_two, whole_of_two, CutOfTwo};
+    ghost use Rattle.afdx_input_runs.specs.Over.{bytes_of_both, Set, IsSetTwo, way_of_two, whole_of_two, CutOfTwo};
 
     ghost Bytes = { List ℕ × List ℕ };
 
-    ghost known = { λ inputs. both (R.remaining (device_of inputs.a))
-        (R.remaining (device_of inputs.b)) };
+    ghost known = { λ inputs. bytes_of_both R.remaining (P.both inputs) };
 
     ghost counted = { λ source. plus_tally (tally_of_source source.pair.first.source)
         (tally_of_source source.pair.second.source) };
@@ -194,7 +225,7 @@ impl<R: Read> Reads<NumberLine, BySide<Watched<R>>> for TimedPair<Ordered<ReadRe
 
     ghost whole = { whole_of_two };
 
-    ghost AreCut = { CutOfTwo R.remaining };
+    ghost AreCut = { λ way bytes inputs. CutOfTwo R.remaining way bytes (P.both inputs) };
 
     fn tally(&self) -> Tally {
         let (a, b) = (
@@ -206,7 +237,9 @@ impl<R: Read> Reads<NumberLine, BySide<Watched<R>>> for TimedPair<Ordered<ReadRe
 
     fn stays() {}
 
-    fn reads() {}
+    fn reads() {
+        P::agrees();
+    }
 
     fn takes() {}
 }

@@ -1,9 +1,10 @@
 //! The frames among the lines of recordings, of what came in and of what left.
 
+use crate::over::{Input, Reads};
 use crate::seen::Seen;
 use afdx_frame::{Seal, Side};
 use afdx_input_lines::{Heading, Next, Role, RunFault};
-use afdx_input_sources::{NumberLine, Source, has_own, seal_by, without_own};
+use afdx_input_sources::{NumberLine, Source, Tally, has_own, seal_by, without_own};
 
 /// Gives the frames among the lines that a source gives.
 #[derive(Drop)]
@@ -100,5 +101,41 @@ impl<I, S: Source<NumberLine, I>> Source<Seen, I> for Seeing<S> {
 
     fn bytes(&self) -> &[u8] {
         without_own(self.has_own, self.lines.bytes())
+    }
+}
+
+impl<I: Input, S: Reads<NumberLine, I>> Reads<Seen, I> for Seeing<S> {
+    ghost Bytes = { S.Bytes };
+
+    ghost known = { S.known };
+
+    ghost counted = { λ source. S.counted source.lines };
+
+    ghost AreFew = { λ source. S.AreFew source.lines };
+
+    ghost Way = { S.Way };
+
+    ghost way = { λ source. S.way source.lines };
+
+    ghost IsSet = { S.IsSet };
+
+    ghost whole = { S.whole };
+
+    ghost AreCut = { S.AreCut };
+
+    fn tally(&self) -> Tally {
+        self.lines.tally()
+    }
+
+    fn stays() {
+        S::stays();
+    }
+
+    fn reads() {
+        S::reads();
+    }
+
+    fn takes() {
+        S::takes();
     }
 }

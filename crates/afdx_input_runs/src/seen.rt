@@ -1,7 +1,9 @@
 //! A frame of one of two lists that are read at once.
 
 ghost use Rattle.afdx_input_runs.specs.Seeing.{SeenFollows};
+ghost use Rattle.afdx_input_runs.specs.SeenLines.{seen_listed};
 
+use crate::over::OfLines;
 use afdx_input_lines::{Heading, Role};
 use afdx_input_sources::Head;
 
@@ -17,4 +19,10 @@ pub struct Seen {
 
 impl Head for Seen {
     ghost can_follow = { SeenFollows };
+}
+
+impl OfLines for Seen {
+    ghost items_of = { seen_listed };
+
+    fn peels() {}
 }

@@ -62,7 +62,7 @@ impl<I, S: Source<Heading, I>> Source<Seen, ByRole<I>> for TwoLists<S> {
     ghost Stopped = { StopsJoining S.current S.Gave S.Ended S.Stopped };
 
     fn next(&mut self, inputs: &mut ByRole<I>) -> Result<Next, RunFault> {
-        match give_next(&mut self.both, &mut inputs.came, &mut inputs.left) {
+        match give_next(&mut self.both, inputs) {
             Ok(next) => Ok(next),
             Err(fault) => Err(RunFault::of_list(role_of(self.both.from), fault)),
         }

@@ -209,6 +209,10 @@ inputs_of a b = record { a = a; b = b }
 abbrev pub inputs_by_role : {I : Type 0} → ByRole I → BySide I
 inputs_by_role inputs = inputs_of inputs.came inputs.left
 
+-- the first of these is what came in
+abbrev pub roles_of : {I : Type 0} → BySide I → ByRole I
+roles_of inputs = record { came = inputs.a; left = inputs.b }
+
 -- the source that gave an item last, and that item
 abbrev pub source_by : {S : Type 0} → Nth → Merged S → S
 source_by First merged = merged.first.source

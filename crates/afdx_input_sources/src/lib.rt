@@ -32,6 +32,7 @@ mod skipped;
 mod taps;
 mod timed_numbers;
 mod timed_pair;
+mod two;
 
 pub use ahead::{Ahead, AtHead, InOrder};
 pub use arriving::{Arriving, has_own, seal_by, without_own};
@@ -56,3 +57,4 @@ pub use skipped::{SKIPPED, Skipped};
 pub use taps::Taps;
 pub use timed_numbers::TimedNumbers;
 pub use timed_pair::TimedPair;
+pub use two::Two;

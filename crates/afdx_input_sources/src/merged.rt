@@ -5,11 +5,12 @@ ghost use Rattle.afdx_frame.specs.declared.by_side.BySide.{BySide};
 ghost use Rattle.afdx_input_lines.specs.Calls.{is_failed_write};
 ghost use Rattle.afdx_input_sources.specs.MergedSource as spec;
 ghost use Rattle.afdx_input_sources.specs.MergedSource.{AreMerged, AreMergedToEnd, FollowsBoth};
-ghost use Rattle.afdx_input_sources.specs.MergedSource.{OfTwo, StopsMerging, given, inputs_of};
+ghost use Rattle.afdx_input_sources.specs.MergedSource.{OfTwo, StopsMerging, given};
 ghost use Rattle.afdx_input_sources.specs.MergedSource.{left_in};
 
 use crate::ahead::{Ahead, AtHead, InOrder, seek};
 use crate::engine::Source;
+use crate::two::Two;
 use afdx_input_lines::{Next, Progress, RunFault};
 
 /// Which of two sources.
@@ -73,30 +74,29 @@ fn next_of(first: AtHead, second: AtHead) -> Option<Nth>
 /// Their heads are looked for, that of the first before. What comes at once, and a fault, come as
 /// soon as they are found; else the earlier item, that of the first where both have the same time.
 #[inline(always)]
-pub fn give_next<H: InOrder, I, S: Source<H, I>>(
+pub fn give_next<H: InOrder, P: Two, S: Source<H, P::Part>>(
     merged: &mut Merged<S>,
-    first: &mut I,
-    second: &mut I,
+    inputs: &mut P,
 ) -> Result<Next, RunFault>
-    requires { (start : BySide I) × (past : List (OfTwo H))
+    requires { (start : BySide P.Part) × (past : List (OfTwo H))
         × AreMerged H.order H.can_follow S.current S.Gave S.Ended start merged.old
-        (inputs_of first.old second.old) past }
-    ensures item { (start : BySide I) (past : List (OfTwo H)) →
+        (P.both inputs.old) past }
+    ensures item { (start : BySide P.Part) (past : List (OfTwo H)) →
         AreMerged H.order H.can_follow S.current S.Gave S.Ended start merged.old
-        (inputs_of first.old second.old) past → result ≡ Ok Next.Given →
+        (P.both inputs.old) past → result ≡ Ok Next.Given →
         AreMerged H.order H.can_follow S.current S.Gave S.Ended start merged.new
-        (inputs_of first.new second.new) (given S.current merged.new ∷ past)
+        (P.both inputs.new) (given S.current merged.new ∷ past)
         × FollowsBoth H.order H.can_follow past (given S.current merged.new) }
-    ensures end { (start : BySide I) (past : List (OfTwo H)) →
+    ensures end { (start : BySide P.Part) (past : List (OfTwo H)) →
         AreMerged H.order H.can_follow S.current S.Gave S.Ended start merged.old
-        (inputs_of first.old second.old) past → result ≡ Ok Next.Ended →
+        (P.both inputs.old) past → result ≡ Ok Next.Ended →
         AreMergedToEnd H.order H.can_follow S.current S.Gave S.Ended start merged.new
-        (inputs_of first.new second.new) past }
-    ensures stop { (start : BySide I) (past : List (OfTwo H)) →
+        (P.both inputs.new) past }
+    ensures stop { (start : BySide P.Part) (past : List (OfTwo H)) →
         AreMerged H.order H.can_follow S.current S.Gave S.Ended start merged.old
-        (inputs_of first.old second.old) past →
+        (P.both inputs.old) past →
         IfErr result (StopsMerging H.order H.can_follow S.current S.Gave S.Ended S.Stopped start
-        merged.new (inputs_of first.new second.new) past) }
+        merged.new (P.both inputs.new) past) }
     ensures unwritten { is_failed_write result ≡ false }
     ensures settings_first { S.settings merged.new.first.source
         ≡ S.settings merged.old.first.source }
@@ -106,12 +106,13 @@ pub fn give_next<H: InOrder, I, S: Source<H, I>>(
         left_in S.left_of merged.new < left_in S.left_of merged.old }
 {
     H::keeps();
+    P::holds_both();
     merged.from = Nth::First;
-    if let Progress::Given = seek(&mut merged.first, first)? {
+    if let Progress::Given = seek(&mut merged.first, inputs.first())? {
         return Ok(Next::Given);
     }
     merged.from = Nth::Second;
-    if let Progress::Given = seek(&mut merged.second, second)? {
+    if let Progress::Given = seek(&mut merged.second, inputs.second())? {
         return Ok(Next::Given);
     }
     match next_of(merged.first.head, merged.second.head) {

@@ -1,4 +1,0 @@
-use Rattle.afdx_input_runs.proofs.over_roles.TimedPairOrderedReadRecordingReadsNumberLineByRoleWatched.stays.Goals as goal
-
-pub returns : goal.returns
-returns g c a b e = e

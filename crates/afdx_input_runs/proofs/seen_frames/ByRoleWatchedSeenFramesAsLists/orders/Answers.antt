@@ -1,5 +1,0 @@
-use Rattle.afdx_input_runs.proofs.SeenOrderLemmas.{lists-go-on}
-use Rattle.afdx_input_runs.proofs.seen_frames.ByRoleWatchedSeenFramesAsLists.orders.Goals as goal
-
-pub returns : goal.returns
-returns g c options ports bytes rest past answer h = lists-go-on g.R.Read.remaining bytes rest past answer h

@@ -1,5 +1,0 @@
-use Rattle.afdx_input_runs.proofs.SeenOrderLemmas.{one-go-on}
-use Rattle.afdx_input_runs.proofs.seen_frames.WatchedSeenFramesRecordingOptions.orders.Goals as goal
-
-pub returns : goal.returns
-returns g c options ports bytes rest past answer h = one-go-on g.R.Read.remaining options ports bytes rest past answer h
