@@ -145,7 +145,7 @@ fn renew(serving: &mut Serving, ports: &[Port<Frame>], places: &[u8])
 impl SwitchState {
     ghost use Rattle.afdx_config.specs.Rows.{Rows};
     ghost use Rattle.afdx_frame.specs.declared.link.Side.{Side};
-    ghost use Rattle.afdx_frame.specs.Parts.{bytes_of};
+    ghost use Rattle.afdx_frame.specs.Parts.{bytes_of, IsLinkFrame};
     ghost use Rattle.afdx_frame.specs.Sealing.{sealed};
     ghost use Rattle.afdx_police.specs.Arrival.{arrival_with};
     ghost use Rattle.afdx_switch.specs.Calls.{Arrives, TellsDue, TellsEarly, TellsOrder, Takes};
