@@ -54,7 +54,7 @@ nothing-so-far k output = record {
   are_early = nothing-early k;
 }
 
-module _ (Takes : List Frame → Result SeenCount RunFault → Type 0) (k : Rows × Choices) (is_lossy : Bool) where
+module _ (Takes : List (Item Seen) → Result SeenCount RunFault → Type 0) (k : Rows × Choices) (is_lossy : Bool) where
   -- there was no memory at the begin
   pub answers-memory : (old : Option (List ℕ)) → Takes [] (Err Memory) → ConformAnswers Takes k is_lossy old old
       (Err Memory)
@@ -69,7 +69,7 @@ module _ (Takes : List Frame → Result SeenCount RunFault → Type 0) (k : Rows
 
     -- the inputs were told by the machine, with this answer
     abbrev pub AreTold : Result SeenCount RunFault → Type 0
-    AreTold answer = (items : List (Item Seen)) × Takes (frames_of items) answer
+    AreTold answer = (items : List (Item Seen)) × Takes items answer
         × By answer (Ends items) (Tells items) (Tells items ⊎ BeginsWritten k (frames_of items) old mid)
 
     so-far : (items : List (Item Seen)) → Tells items → IsWrittenSoFar k (frames_of items) old mid
@@ -91,7 +91,7 @@ module _ (Takes : List Frame → Result SeenCount RunFault → Type 0) (k : Rows
 
     -- the run ended with a fault
     pub answers-err : (fault : RunFault) → AreTold (Err fault) → ConformAnswers Takes k is_lossy old mid (Err fault)
-    answers-err fault (items, takes, by) = inl (frames_of items, takes, writes items (cause_of fault) by)
+    answers-err fault (items, takes, by) = inl (items, takes, writes items (cause_of fault) by)
 
     -- it came to its end, and the last line is written
     pub answers-ok : (new : Option (List ℕ)) (count : SeenCount) (totals : Totals)
@@ -101,7 +101,7 @@ module _ (Takes : List Frame → Result SeenCount RunFault → Type 0) (k : Rows
         → ConformAnswers Takes k is_lossy old new (Ok (counted_with totals count))
     answers-ok new count totals ended none last (items, takes, told) =
         let w = ended items told in (
-          frames_of items,
+          items,
           takes,
           none,
           record {
@@ -121,7 +121,7 @@ module _ (Takes : List Frame → Result SeenCount RunFault → Type 0) (k : Rows
     answers-lost count totals fault ended some (items, takes, told) =
         let w = ended items told in
         inr (
-          frames_of items,
+          items,
           count,
           takes,
           inl (
@@ -151,7 +151,7 @@ module _ (Takes : List Frame → Result SeenCount RunFault → Type 0) (k : Rows
               (conform_text (last_line (totals_of k (frames_of items) w.dues))) w.written
               (subst (λ (n : Totals). AppendsFront mid new (conform_text (last_line n))) w.totals_are begun);
         } in
-        inr (frames_of items, count, takes, inr (none, of, here))
+        inr (items, count, takes, inr (none, of, here))
 
 -- ---- what is told in the place of the last line is no fault of a device
 

@@ -5,9 +5,11 @@ use Rattle.std.specs.Option.{option_or}
 use Rattle.std.specs.Io.KnownBytes.{Appends}
 use Rattle.afdx_config.specs.Rows.{Rows}
 use Rattle.afdx_input_sources.specs.Causes.{cause_of}
+use Rattle.afdx_input_sources.specs.Engine.{Item}
 use Rattle.afdx_input_runs.specs.Arrivals.{ByCause}
-use Rattle.afdx_input_runs.specs.Joining.{Frame}
+use Rattle.afdx_input_runs.specs.Joining.{Frame, frames_of}
 use Rattle.afdx_input_runs.specs.SeenFrames.{absent_of, lost_of}
+use Rattle.afdx_input_runs.specs.declared.seen.Seen.{Seen}
 use Rattle.afdx_input_runs.specs.declared.seen_frames.SeenCount.{SeenCount}
 use Rattle.afdx_input_lines.specs.declared.fault.RunFault.{RunFault}
 use Rattle.afdx_input_lines.specs.declared.fault.RunFault.TheVariants.{Recording}
@@ -52,38 +54,38 @@ loss_told false lost = if nat_lt 0 lost then Some (Recording (Lossy lost)) else 
 abbrev pub fault_behind : (is_lossy : Bool) → SeenCount → Option RunFault
 fault_behind is_lossy count = option_or (absent_of count) (loss_told is_lossy (lost_of count))
 
--- `Takes` says of frames and an answer that a run with this answer took them; the output held `old`
--- and holds `new`
-module _ (Takes : List Frame → Result SeenCount RunFault → Type 0) (k : Rows × Choices)
+-- `Takes` says of items and an answer that a run with this answer took their frames; the output
+-- held `old` and holds `new`
+module _ (Takes : List (Item Seen) → Result SeenCount RunFault → Type 0) (k : Rows × Choices)
     (is_lossy : Bool) (old new : Option (List ℕ)) where
   -- A run stops before it took all frames. At a fault of the inputs exactly the lines of moments
   -- before the time of the last frame are written; after a failed write, or want of memory, these,
   -- or a beginning of the first lines.
   abbrev pub StopsAmong : RunFault → Type 0
-  StopsAmong fault = (frames : List Frame) × Takes frames (Err fault)
-      × ByCause (cause_of fault) (IsWrittenSoFar k frames old new)
-      (IsWrittenSoFar k frames old new ⊎ BeginsWritten k frames old new)
+  StopsAmong fault = (items : List (Item Seen)) × Takes items (Err fault)
+      × ByCause (cause_of fault) (IsWrittenSoFar k (frames_of items) old new)
+      (IsWrittenSoFar k (frames_of items) old new ⊎ BeginsWritten k (frames_of items) old new)
 
   -- Or it took them all. All lines are written, and a fault of the recordings is told; or else the
   -- last line isn't, or not all of it.
   abbrev pub StopsBehind : RunFault → Type 0
-  StopsBehind fault = (frames : List Frame) × (count : SeenCount) × Takes frames (Ok count)
-      × (((fault_behind is_lossy count ≡ Some fault) × WritesDues k frames old new)
+  StopsBehind fault = (items : List (Item Seen)) × (count : SeenCount) × Takes items (Ok count)
+      × (((fault_behind is_lossy count ≡ Some fault) × WritesDues k (frames_of items) old new)
       ⊎ ((fault_behind is_lossy count ≡ None) × IsOfOutput fault
-      × BeginsLast k frames old new))
+      × BeginsLast k (frames_of items) old new))
 
   -- all frames were taken, no interface is missing and no frame was lost that matters, and all
   -- lines are written; or it stops with a fault, without a last line
   abbrev pub ConformAnswers : Result RunCounts RunFault → Type 0
-  ConformAnswers (Ok counted) = (frames : List Frame) × Takes frames (Ok counted.count)
+  ConformAnswers (Ok counted) = (items : List (Item Seen)) × Takes items (Ok counted.count)
       × (fault_behind is_lossy counted.count ≡ None)
-      × WritesAll k frames old new counted.totals
+      × WritesAll k (frames_of items) old new counted.totals
   ConformAnswers (Err fault) = StopsAmong fault ⊎ StopsBehind fault
 
 -- a run by these tables with these choices, of these ports that were recorded, answers so, where
 -- the bytes of its inputs are known; an input may say of whom what came is
 abbrev pub Answers : {B I : Type 0} → Option B →
-    (Ports → B → I → List Frame → Result SeenCount RunFault → Type 0) → I →
+    (Ports → B → I → List (Item Seen) → Result SeenCount RunFault → Type 0) → I →
     Rows → Taps → asked.Choices → (old new : Option (List ℕ)) → Result RunCounts RunFault →
     Type 0
 Answers known Takes inputs t taps choices old new answer = IfSome known (λ bytes.

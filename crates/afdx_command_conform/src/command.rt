@@ -11,7 +11,7 @@ use afdx_command_tables::read_described;
 use afdx_command_tables::status::WRONG_WORDS;
 use afdx_config::{Described, Tables};
 use afdx_input_lines::{RunFault, Watched};
-use afdx_input_runs::{SeenCount, SeenFrames};
+use afdx_input_runs::{RunInput, Seen, SeenCount, Tapping};
 use afdx_text::{Sink, tell, tell_fault};
 use std::alloc::Global;
 use std::io::Write;
@@ -92,7 +92,7 @@ fn end<E: Write>(answer: Result<RunCounts, RunFault>, errors: &mut Watched<E>) -
 /// Nothing of the inputs is read before the tables are taken. The exit status is 0 conforms, 5
 /// deviates, 3 undecided or a fault of a list or a recording, 1 a fault of the configuration, 2 no
 /// such switch, or 4 a device or memory.
-pub fn conform<P: Drop, A: SeenFrames<P>, O: Sink, E: Write>(
+pub fn conform<P: Tapping + Drop, A: RunInput<P, Seen>, O: Sink, E: Write>(
     alloc: Global,
     question: Question<'_>,
     options: P,
@@ -112,7 +112,7 @@ pub fn conform<P: Drop, A: SeenFrames<P>, O: Sink, E: Write>(
     // read, or has no such switch: then nothing is read and nothing is written.
     ensures judges { IsJudgedOr E.contents question.entry errors.old errors.new result
         (λ t answer. IsRun (A.ended inputs.new) (A.failed inputs.new) (O.failed output.new) answer
-        × Answers (A.known inputs.old) (A.Takes options) inputs.new t (A.tapped options)
+        × Answers (A.known inputs.old) (A.Takes options) inputs.new t (P.tapped options)
         question.entry.choices.now (O.written output.old) (O.written output.new) answer)
         ((inputs.new ≡ inputs.old) × (output.new ≡ output.old)) }
 {

@@ -27,7 +27,7 @@ mod whole;
 
 pub use afdx_conform::Leeway;
 pub use afdx_input_lines::{ByRole, Watched};
-pub use afdx_input_runs::{AsLists, SeenCount, SeenFrames};
+pub use afdx_input_runs::{AsLists, RunInput, Seen, SeenCount, Tapping};
 pub use choices::Choices;
 pub use command::{Judged, Question, conform};
 pub use run::{RunCounts, run_conform};

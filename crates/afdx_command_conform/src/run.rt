@@ -12,7 +12,7 @@ use crate::judging::JudgingRun;
 use crate::totals::Totals;
 use afdx_config::Tables;
 use afdx_input_lines::{RecordingFault, RunFault};
-use afdx_input_runs::{SeenCount, SeenFrames};
+use afdx_input_runs::{RunInput, Seen, SeenCount, Tapping};
 use afdx_input_sources::UnsaidPort;
 use afdx_text::{OutLine, Sink};
 use std::alloc::Global;
@@ -58,7 +58,7 @@ fn fault_behind(is_lossy: bool, count: &SeenCount) -> Option<RunFault>
 /// it.
 /// `RunFault::Read` and `RunFault::Write` come exactly where the device of an input, or the
 /// output's, failed; none is tried again.
-pub fn run_conform<P: Drop, A: SeenFrames<P>, O: Sink>(
+pub fn run_conform<P: Tapping + Drop, A: RunInput<P, Seen>, O: Sink>(
     alloc: Global,
     tables: &Tables,
     choices: &Choices,
@@ -76,12 +76,12 @@ pub fn run_conform<P: Drop, A: SeenFrames<P>, O: Sink>(
     // Where the bytes are known: what is answered and written for the frames that it takes.
     ensures answer { IfSome (A.known inputs.old) (λ bytes. ConformAnswers
         (A.Takes options (ports_of_one tables.now) bytes inputs.new)
-        (tables.now, choices_of (A.tapped options) choices.now) choices.now.is_lossy
+        (tables.now, choices_of (P.tapped options) choices.now) choices.now.is_lossy
         (O.written output.old) (O.written output.new) result) }
 {
     // (a law of the inputs: where memory is wanting at once nothing is taken)
     A::starts();
-    let taps = A::taps(&options);
+    let taps = options.taps();
     let mut judging = JudgingRun::new(alloc, tables, choices, &taps)?;
     let unsaid = UnsaidPort::OfSender(tables);
     let count = inputs.tell_all(alloc, options, unsaid, &mut judging, output)?;

@@ -1,5 +1,5 @@
-//! What gives a run its arrivals: an input that is a list of frames or a recording, or two recordings
-//! that are read at once.
+//! What gives a run its arrivals: an input that is a list of frames or a recording, or two
+//! recordings that are read at once.
 
 ghost use Rattle.std.specs.Prelude.{ℕ, List};
 ghost use Rattle.afdx_input_lines.specs.Peeking.{left_in};

@@ -18,10 +18,9 @@ use Rattle.afdx_input_lines.specs.declared.watched.Watched.{Watched}
 use Rattle.afdx_text.specs.Telling.{TellsFault}
 use Rattle.afdx_network.specs.Order.{events_of}
 use Rattle.afdx_switch.specs.Admitted.{IsAdmittedRun}
-use Rattle.afdx_input_runs.specs.Arrivals.{By, DontGoBack}
+use Rattle.afdx_input_runs.specs.Arrivals.{By, DontGoBack, TookAndTold}
 use Rattle.afdx_input_runs.specs.declared.input_run.InputCount.{InputCount}
 use Rattle.afdx_input_runs.proofs.ArrivalsLemmas.{by-more}
-use Rattle.afdx_input_runs.proofs.TookLemmas.{Took}
 use Rattle.afdx_input_sources.specs.Engine.{Item}
 use Rattle.afdx_input_sources.specs.Items.{arrivals}
 use Rattle.afdx_input_lines.specs.declared.frame_line.Heading.{Heading}
@@ -47,7 +46,7 @@ use Rattle.afdx_replay.specs.policing.Told as police_told
 use Rattle.afdx_replay.specs.declared.policing.run.Police.{Police}
 use Rattle.afdx_text.proofs.OutputLemmas.{whole_front as front-whole}
 use Rattle.afdx_replay.specs.replaying.Early.{AreEarlyLines, HearsEarly, HearsMost}
-use Rattle.afdx_replay.specs.replaying.Input.{Hears, Replays, Taking, Writes, WritesPromised, counts_of}
+use Rattle.afdx_replay.specs.replaying.Input.{Hearing, Hears, Replays, Taking, Writes, WritesPromised, counts_of}
 use Rattle.afdx_replay.specs.replaying.PromisedRun.{IsAsPromised, WritesPromisedSoFar, WritesPromisedSome}
 use Rattle.afdx_replay.specs.replaying.Replayed.{Known, ToldAll, WritesAll, WritesSoFar, WritesSome}
 use Rattle.afdx_replay.specs.replaying.Text.{replay_text}
@@ -93,16 +92,17 @@ answers-so t past counts old new A B C (Err fault) h = refl
 
 module _ {D : Type 0} (contents : D → Option (List ℕ)) (t : Rows) (takes : Taking) (early now : Option (Watched D))
     (old new : Known) where
-  abbrev pub HearsSo : Taking
+  abbrev pub HearsSo : Hearing
   HearsSo past count = Hears t past count contents early now
 
-  pub replays-by : (past : List Arrival) (count : Result InputCount RunFault) (counts : Summary) → takes past count
-      → DontGoBack past
-      → By count (ToldAll t counts old new past × HearsEarly contents t early now past)
-      (WritesSoFar t old new past × HearsEarly contents t early now past)
-      (WritesSome t old new past × HearsMost contents t early now past)
+  pub replays-by : (items : List (Item Heading)) (count : Result InputCount RunFault) (counts : Summary)
+      → takes items count → DontGoBack (arrivals items)
+      → By count (ToldAll t counts old new (arrivals items) × HearsEarly contents t early now (arrivals items))
+      (WritesSoFar t old new (arrivals items) × HearsEarly contents t early now (arrivals items))
+      (WritesSome t old new (arrivals items) × HearsMost contents t early now (arrivals items))
       → Replays t takes HearsSo old new (answer_of counts count)
-  replays-by past count counts taken ordered h =
+  replays-by items count counts taken ordered h =
+      let past = arrivals items in
       let written : Writes t past count old new =
       by-more count (ToldAll t counts old new past × HearsEarly contents t early now past)
       (WritesSoFar t old new past × HearsEarly contents t early now past)
@@ -110,7 +110,7 @@ module _ {D : Type 0} (contents : D → Option (List ℕ)) (t : Rows) (takes : T
       (Appends old new (replay_text t (events_of t past))) (WritesSoFar t old new past) (WritesSome t old new past)
       (λ a. a.0.written) (λ a. a.0) (λ a. a.0) h in
       record {
-        past = past;
+        items = items;
         count = count;
         taken = taken;
         answered = answers-so t past counts old new (HearsEarly contents t early now past)
@@ -135,14 +135,15 @@ module _ {D : Type 0} (contents : D → Option (List ℕ)) (t : Rows) (early : O
   either items (inr b) = b
 
   pub replays-told : (takes : Taking) (r : Result InputCount RunFault)
-      → ((past : List Arrival) (answer : Result InputCount RunFault) → takes past answer → DontGoBack past)
-      → Took (TellsAll contents (t, early) replay old new) (TellsItems contents (t, early) replay old new)
-      (BeginsItems contents (t, early) replay old new) takes r
+      → ((items : List (Item Heading)) (answer : Result InputCount RunFault) → takes items answer
+      → DontGoBack (arrivals items))
+      → TookAndTold takes r (TellsAll contents (t, early) replay old new)
+      (TellsItems contents (t, early) replay old new) (BeginsItems contents (t, early) replay old new)
       → Replays t takes (HearsSo contents t takes early replay.early old new) old new (answer_of replay.counts r)
   replays-told takes r orders (items, taken, told) =
       let hears = HearsEarly contents t early replay.early (arrivals items) in
-      replays-by contents t takes early replay.early old new (arrivals items) r replay.counts taken
-      (orders (arrivals items) r taken)
+      replays-by contents t takes early replay.early old new items r replay.counts taken
+      (orders items r taken)
       (by-more r (TellsAll contents (t, early) replay old new items)
       (TellsItems contents (t, early) replay old new items)
       (TellsItems contents (t, early) replay old new items ⊎ BeginsItems contents (t, early) replay old new items)
@@ -152,11 +153,10 @@ module _ {D : Type 0} (contents : D → Option (List ℕ)) (t : Rows) (early : O
 
   -- the same where the input's bytes are known
   pub replays-known : {B : Type 0} (takes : B → Taking) (known : Option B) (r : Result InputCount RunFault)
-      → ((bytes : B) (past : List Arrival) (answer : Result InputCount RunFault) → takes bytes past answer
-      → DontGoBack past)
-      → IfSome known (λ bytes. Took (TellsAll contents (t, early) replay old new)
-      (TellsItems contents (t, early) replay old new) (BeginsItems contents (t, early) replay old new)
-      (takes bytes) r)
+      → ((bytes : B) (items : List (Item Heading)) (answer : Result InputCount RunFault) → takes bytes items answer
+      → DontGoBack (arrivals items))
+      → IfSome known (λ bytes. TookAndTold (takes bytes) r (TellsAll contents (t, early) replay old new)
+      (TellsItems contents (t, early) replay old new) (BeginsItems contents (t, early) replay old new))
       → IfSome known (λ bytes. Replays t (takes bytes) (HearsSo contents t (takes bytes) early replay.early old new)
       old new (answer_of replay.counts r))
   replays-known takes None r orders h = tt
@@ -255,11 +255,11 @@ module _ (rule : Rule) (takes : Taking) (police : Police) (old new : Known) wher
   begun items (inr b) = b
 
   pub polices-told : (r : Result InputCount RunFault)
-      → Took (police_told.TellsItems rule police old new) (police_told.TellsItems rule police old new)
-      (police_told.BeginsItems rule old new) takes r
+      → TookAndTold takes r (police_told.TellsItems rule police old new) (police_told.TellsItems rule police old new)
+      (police_told.BeginsItems rule old new)
       → Polices rule takes old new (answer_of Counts r)
   polices-told r (items, taken, told) = record {
-    past = arrivals items;
+    items = items;
     count = r;
     taken = taken;
     answered = policed-so items _ _ r told;
@@ -273,8 +273,8 @@ module _ (rule : Rule) (takes : Taking) (police : Police) (old new : Known) wher
 
 pub polices-known : {B : Type 0} (rule : Rule) (takes : B → Taking) (police : Police) (old new : Known)
     (known : Option B) (r : Result InputCount RunFault)
-    → IfSome known (λ bytes. Took (police_told.TellsItems rule police old new)
-    (police_told.TellsItems rule police old new) (police_told.BeginsItems rule old new) (takes bytes) r)
+    → IfSome known (λ bytes. TookAndTold (takes bytes) r (police_told.TellsItems rule police old new)
+    (police_told.TellsItems rule police old new) (police_told.BeginsItems rule old new))
     → IfSome known (λ bytes. Polices rule (takes bytes) old new (answer_of (Counts rule (takes bytes) police old new)
     r))
 polices-known rule takes police old new None r h = tt

@@ -1,8 +1,10 @@
 -- What a run that polices one link answers and writes, whatever gives it its arrivals.
 use Rattle.std.specs.Prelude.{◌≡◌, List, Result}
-use Rattle.afdx_police.specs.Arrival.{Arrival}
 use Rattle.afdx_police.specs.Rule.{Rule}
 use Rattle.afdx_input_lines.specs.declared.fault.RunFault.{RunFault}
+use Rattle.afdx_input_lines.specs.declared.frame_line.Heading.{Heading}
+use Rattle.afdx_input_sources.specs.Engine.{Item}
+use Rattle.afdx_input_sources.specs.Items.{arrivals}
 use Rattle.afdx_input_runs.specs.Arrivals.{By}
 use Rattle.afdx_input_runs.specs.declared.input_run.InputCount.{InputCount}
 use Rattle.afdx_replay.specs.Inputs.{answer_of}
@@ -16,9 +18,9 @@ use Rattle.afdx_replay.specs.declared.input_ending.InputSummary.{InputSummary}
 -- text; where a device fails, or memory is refused, a beginning of that.
 pub record Polices (rule : Rule) (takes : Taking) (old new : Known)
     (answer : Result InputSummary RunFault) : Type 0 where
-  pub past : List Arrival
+  pub items : List (Item Heading)
   pub count : Result InputCount RunFault
-  pub taken : takes past count
-  pub answered : answer ≡ answer_of (counts_of rule 0 past) count
-  pub written : By count (WritesText rule old new past) (WritesText rule old new past)
-      (WritesBeginning rule old new past)
+  pub taken : takes items count
+  pub answered : answer ≡ answer_of (counts_of rule 0 (arrivals items)) count
+  pub written : By count (WritesText rule old new (arrivals items))
+      (WritesText rule old new (arrivals items)) (WritesBeginning rule old new (arrivals items))

@@ -10,12 +10,15 @@ use Rattle.afdx_config.specs.declared.describing.Described.TheVariants.{One, Sev
 use Rattle.afdx_command_tables.specs.Checking.{IsAdmittedFile, IsRead}
 use Rattle.afdx_police.specs.Arrival.{Arrival}
 use Rattle.afdx_input_lines.specs.declared.fault.RunFault.{RunFault}
+use Rattle.afdx_input_lines.specs.declared.frame_line.Heading.{Heading}
 use Rattle.afdx_input_lines.specs.declared.watched.Watched.{Watched}
 use Rattle.afdx_network.specs.Order.{events_of}
 use Rattle.afdx_input_runs.specs.Arrivals.{By}
 use Rattle.afdx_input_runs.specs.declared.input_run.InputCount.{InputCount}
 use Rattle.afdx_command_tables.specs.declared.summary.Summary.{Summary}
 use Rattle.afdx_input_sources.specs.Claims.{Ports, ports_of_one}
+use Rattle.afdx_input_sources.specs.Engine.{Item}
+use Rattle.afdx_input_sources.specs.Items.{arrivals}
 use Rattle.afdx_replay.specs.Inputs.{answer_of, EndsInputAs}
 use Rattle.afdx_replay.specs.Placed.{ArePlacedIn, IsNotRun}
 use Rattle.afdx_replay.specs.cascading.Input.{Answering}
@@ -28,9 +31,13 @@ use Rattle.afdx_replay.specs.declared.input_ending.InputEnded.{InputEnded}
 use Rattle.afdx_replay.specs.declared.input_ending.InputSummary.{InputSummary}
 use Rattle.afdx_replay.specs.declared.replaying.input_command.ReplaySettings.{ReplaySettings}
 
--- with this answer a run has taken these arrivals
+-- with this answer a run has taken the arrivals of these items
 abbrev pub Taking : Type 1
-Taking = List Arrival → Result InputCount RunFault → Type 0
+Taking = List (Item Heading) → Result InputCount RunFault → Type 0
+
+-- with this answer a device was told of these arrivals
+abbrev pub Hearing : Type 1
+Hearing = List Arrival → Result InputCount RunFault → Type 0
 
 module _ (t : Rows) (past : List Arrival) where
   -- the counts of all their events
@@ -61,15 +68,15 @@ module _ (t : Rows) (past : List Arrival) where
 
 -- What a replay does in the tables `t` that answers so: it has taken some arrivals, and counts and
 -- writes what they mean; if the tables are admitted, as promised.
-pub record Replays (t : Rows) (takes hears : Taking) (old new : Known)
+pub record Replays (t : Rows) (takes : Taking) (hears : Hearing) (old new : Known)
     (answer : Result InputSummary RunFault) : Type 0 where
-  pub past : List Arrival
+  pub items : List (Item Heading)
   pub count : Result InputCount RunFault
-  pub taken : takes past count
-  pub answered : answer ≡ answer_of (counts_of t past) count
-  pub written : Writes t past count old new
-  pub promised : IsLawfulSwitch t → IsAdmitted t → WritesPromised t past count old new
-  pub heard : hears past count
+  pub taken : takes items count
+  pub answered : answer ≡ answer_of (counts_of t (arrivals items)) count
+  pub written : Writes t (arrivals items) count old new
+  pub promised : IsLawfulSwitch t → IsAdmitted t → WritesPromised t (arrivals items) count old new
+  pub heard : hears (arrivals items) count
 
 -- of several switches, what such options say is there
 abbrev pub IsThere : {P : Type 0} → (there : List NamedRows → P → Type 0) → P → Described → Type 0

@@ -22,7 +22,7 @@ use crate::input_ending::InputSummary;
 use afdx_config::Switches;
 use afdx_frame::BySide;
 use afdx_input_lines::{Heading, ListedSwitch, Peeked, RunFault, Watched};
-use afdx_input_runs::{Arrivals, InputCount, Reading, run_input, run_pair};
+use afdx_input_runs::{InputCount, Reading, RunInput, run_input, run_pair};
 use afdx_input_sources::{Machine, PairOptions, Placing, RecordingOptions, UnsaidPort};
 use afdx_text::Sink;
 use std::alloc::Global;
@@ -30,7 +30,7 @@ use std::io::{Read, Write};
 
 /// What gives a replay of several switches its frames: an input that is a list of frames or a
 /// recording, or two recordings that are read at once.
-pub trait SitedInput<P: Placing>: Arrivals<P> {
+pub trait SitedInput<P: Placing>: RunInput<P, Heading> {
     /// Each frame of recordings that comes in as these options say is at one of these switches, at
     /// a port without a cable.
     ghost AreThere: { List NamedRows → P → Type 0 };

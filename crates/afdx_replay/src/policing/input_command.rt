@@ -13,8 +13,8 @@ use crate::input_ending::{InputEnded, end_input};
 use crate::policing::command::CommandedRule;
 use crate::policing::over::police_over;
 use afdx_command_tables::status::WRONG_WORDS;
-use afdx_input_lines::Watched;
-use afdx_input_runs::Arrivals;
+use afdx_input_lines::{Heading, Watched};
+use afdx_input_runs::RunInput;
 use afdx_text::{Sink, tell};
 use std::alloc::Global;
 use std::io::Write;
@@ -27,7 +27,7 @@ use std::io::Write;
 ///
 /// The exit status is 0 done, 2 a value out of range, 3 a fault of the list or a recording, 4 a
 /// device or memory.
-pub fn police_input<P: Drop, A: Arrivals<P>, O: Sink, E: Write>(
+pub fn police_input<P: Drop, A: RunInput<P, Heading>, O: Sink, E: Write>(
     alloc: Global,
     options: P,
     given: &CommandedRule,

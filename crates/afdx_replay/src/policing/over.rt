@@ -9,8 +9,8 @@ ghost use Rattle.afdx_replay.specs.policing.Input.{Polices};
 use crate::input_ending::InputSummary;
 use crate::policing::run::Police;
 use afdx_command_tables::{NO_COUNTS, Summary};
-use afdx_input_lines::RunFault;
-use afdx_input_runs::Arrivals;
+use afdx_input_lines::{Heading, RunFault};
+use afdx_input_runs::RunInput;
 use afdx_input_sources::UnsaidPort;
 use afdx_police::LinkRule;
 use afdx_text::Sink;
@@ -18,7 +18,7 @@ use std::alloc::Global;
 
 /// Polices the arrivals of an input for one virtual link. Frames of a recording come in at the
 /// link's port, where no option says another.
-pub(crate) fn police_over<P: Drop, A: Arrivals<P>, O: Sink>(
+pub(crate) fn police_over<P: Drop, A: RunInput<P, Heading>, O: Sink>(
     alloc: Global,
     options: P,
     rule: &LinkRule,

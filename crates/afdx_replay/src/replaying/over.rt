@@ -8,8 +8,8 @@ ghost use Rattle.afdx_replay.specs.replaying.Input.{Hears, Replays};
 use crate::input_ending::InputSummary;
 use crate::replaying::run::Replay;
 use afdx_config::Tables;
-use afdx_input_lines::{RunFault, Watched};
-use afdx_input_runs::Arrivals;
+use afdx_input_lines::{Heading, RunFault, Watched};
+use afdx_input_runs::RunInput;
 use afdx_input_sources::UnsaidPort;
 use afdx_text::Sink;
 use std::alloc::Global;
@@ -18,7 +18,7 @@ use std::io::Write;
 /// Replays the arrivals of an input through the switches of both sides and the systems behind them,
 /// and tells `early`, if there is such a device, by how much each frame came too early that was
 /// dropped for its link's rate. `early` is handed back.
-pub(crate) fn replay_over<P: Drop, A: Arrivals<P>, O: Sink, D: Write + Drop>(
+pub(crate) fn replay_over<P: Drop, A: RunInput<P, Heading>, O: Sink, D: Write + Drop>(
     alloc: Global,
     options: P,
     tables: &Tables,

@@ -18,11 +18,11 @@ use Rattle.afdx_command_conform.proofs.run.run_conform.Goals as goal
 pub returns-in_err-judging-clause-answer : goal.returns-in_err-judging-clause-answer
 returns-in_err-judging-clause-answer g c =
     let old = g.O.Sink.written c.args.output.now in
-    let k : Rows × Choices = (c.args.tables.now, choices_of (g.A.SeenFrames.tapped c.args.options) c.args.choices.now)
+    let k : Rows × Choices = (c.args.tables.now, choices_of (g.P.Tapping.tapped c.args.options) c.args.choices.now)
     in
     let e : c.from_residual.result ≡ Err run.Memory = search rules in
-    rw e (where-known (g.A.SeenFrames.known c.args.inputs.now) _ (λ bytes known. answers-memory
-    (g.A.SeenFrames.Takes c.args.options (ports_of_one c.args.tables.now) bytes c.args.inputs.now) k
+    rw e (where-known (g.A.RunInput.known c.args.inputs.now) _ (λ bytes known. answers-memory
+    (g.A.RunInput.Takes c.args.options (ports_of_one c.args.tables.now) bytes c.args.inputs.now) k
     c.args.choices.now.is_lossy old
     (c.starts.ensures.takes c.args.options (ports_of_one c.args.tables.now) bytes c.args.inputs.now c.requires.new
     known)))
@@ -37,14 +37,14 @@ tell_all-requires-clause-told g c = (
 pub returns-in_err-count-clause-answer : goal.returns-in_err-count-clause-answer
 returns-in_err-count-clause-answer g c =
     let old = g.O.Sink.written c.args.output.now in
-    let k : Rows × Choices = (c.args.tables.now, choices_of (g.A.SeenFrames.tapped c.args.options) c.args.choices.now)
+    let k : Rows × Choices = (c.args.tables.now, choices_of (g.P.Tapping.tapped c.args.options) c.args.choices.now)
     in
     let e : c.from_residual-in_err-count.result ≡ Err c.in_err-count.field-0.0 = search rules in
     rw e (if-some (λ bytes h. answers-err
-    (g.A.SeenFrames.Takes c.args.options (ports_of_one c.args.tables.now) bytes c.tell_all.new.self) k
+    (g.A.RunInput.Takes c.args.options (ports_of_one c.args.tables.now) bytes c.tell_all.new.self) k
     c.args.choices.now.is_lossy
     c.tell_all.new.machine old (g.O.Sink.written c.tell_all.new.output) c.in_err-count.field-0.0 h)
-    (g.A.SeenFrames.known c.args.inputs.now)
+    (g.A.RunInput.known c.args.inputs.now)
     (c.in_err-count.ensures.answer k
     (subst (λ p. TellsItems (c.args.tables.now, choices_of p c.args.choices.now) c.in_ok-judging.judging old old [])
     c.taps-taps.ensures (c.in_ok-judging.ensures old)) (λ item. tt)))
@@ -52,11 +52,11 @@ returns-in_err-count-clause-answer g c =
 pub returns-in_err-put-clause-answer : goal.returns-in_err-put-clause-answer
 returns-in_err-put-clause-answer g c =
     let old = g.O.Sink.written c.args.output.now in
-    let k : Rows × Choices = (c.args.tables.now, choices_of (g.A.SeenFrames.tapped c.args.options) c.args.choices.now)
+    let k : Rows × Choices = (c.args.tables.now, choices_of (g.P.Tapping.tapped c.args.options) c.args.choices.now)
     in
     let e : c.from_residual-in_err-put.result ≡ Err c.in_err-put.field-0.0 = search rules in
     rw e (if-some (λ bytes h. answers-cut
-    (g.A.SeenFrames.Takes c.args.options (ports_of_one c.args.tables.now) bytes c.tell_all.new.self) k
+    (g.A.RunInput.Takes c.args.options (ports_of_one c.args.tables.now) bytes c.tell_all.new.self) k
     c.args.choices.now.is_lossy
     c.tell_all.new.machine old (g.O.Sink.written c.tell_all.new.output) (g.O.Sink.written c.put.new.self)
     c.in_ok-count.count c.totals-totals.result c.in_err-put.field-0.0 c.in_err-put.ensures.sink.fault
@@ -64,7 +64,7 @@ returns-in_err-put-clause-answer g c =
     (sym c.fault_behind.ensures ∙ c.in_default.is)
     (subst (λ (l : ConformLine). AppendsFront (g.O.Sink.written c.tell_all.new.output) (g.O.Sink.written c.put.new.self)
     (conform_text l)) c.line.ensures c.in_err-put.ensures.front) h)
-    (g.A.SeenFrames.known c.args.inputs.now)
+    (g.A.RunInput.known c.args.inputs.now)
     (c.in_ok-count.ensures.answer k
     (subst (λ p. TellsItems (c.args.tables.now, choices_of p c.args.choices.now) c.in_ok-judging.judging old old [])
     c.taps-taps.ensures (c.in_ok-judging.ensures old)) (λ item. tt)))
@@ -72,16 +72,16 @@ returns-in_err-put-clause-answer g c =
 pub returns-in-Some-clause-answer : goal.returns-in-Some-clause-answer
 returns-in-Some-clause-answer g c =
     let old = g.O.Sink.written c.args.output.now in
-    let k : Rows × Choices = (c.args.tables.now, choices_of (g.A.SeenFrames.tapped c.args.options) c.args.choices.now)
+    let k : Rows × Choices = (c.args.tables.now, choices_of (g.P.Tapping.tapped c.args.options) c.args.choices.now)
     in
     if-some (λ bytes h. answers-lost
-    (g.A.SeenFrames.Takes c.args.options (ports_of_one c.args.tables.now) bytes c.tell_all.new.self) k
+    (g.A.RunInput.Takes c.args.options (ports_of_one c.args.tables.now) bytes c.tell_all.new.self) k
     c.args.choices.now.is_lossy
     c.tell_all.new.machine old (g.O.Sink.written c.tell_all.new.output)
     c.in_ok-count.count c.totals-totals.result c.in-Some.fault
     (c.totals-totals.ensures.written k old (g.O.Sink.written c.tell_all.new.output))
     (sym c.fault_behind.ensures ∙ c.in-Some.is) h)
-    (g.A.SeenFrames.known c.args.inputs.now)
+    (g.A.RunInput.known c.args.inputs.now)
     (c.in_ok-count.ensures.answer k
     (subst (λ p. TellsItems (c.args.tables.now, choices_of p c.args.choices.now) c.in_ok-judging.judging old old [])
     c.taps-taps.ensures (c.in_ok-judging.ensures old)) (λ item. tt))
@@ -100,10 +100,10 @@ returns-in-Some-clause-write g c =
 pub returns-clause-answer : goal.returns-clause-answer
 returns-clause-answer g c =
     let old = g.O.Sink.written c.args.output.now in
-    let k : Rows × Choices = (c.args.tables.now, choices_of (g.A.SeenFrames.tapped c.args.options) c.args.choices.now)
+    let k : Rows × Choices = (c.args.tables.now, choices_of (g.P.Tapping.tapped c.args.options) c.args.choices.now)
     in
     if-some (λ bytes h. answers-ok
-    (g.A.SeenFrames.Takes c.args.options (ports_of_one c.args.tables.now) bytes c.tell_all.new.self) k
+    (g.A.RunInput.Takes c.args.options (ports_of_one c.args.tables.now) bytes c.tell_all.new.self) k
     c.args.choices.now.is_lossy
     c.tell_all.new.machine old (g.O.Sink.written c.tell_all.new.output) (g.O.Sink.written c.put.new.self)
     c.in_ok-count.count c.totals-totals.result
@@ -111,7 +111,7 @@ returns-clause-answer g c =
     (sym c.fault_behind.ensures ∙ c.in_default.is)
     (subst (λ (l : ConformLine). Appends (g.O.Sink.written c.tell_all.new.output) (g.O.Sink.written c.put.new.self)
     (conform_text l)) c.line.ensures c.in_ok-put.ensures.whole) h)
-    (g.A.SeenFrames.known c.args.inputs.now)
+    (g.A.RunInput.known c.args.inputs.now)
     (c.in_ok-count.ensures.answer k
     (subst (λ p. TellsItems (c.args.tables.now, choices_of p c.args.choices.now) c.in_ok-judging.judging old old [])
     c.taps-taps.ensures (c.in_ok-judging.ensures old)) (λ item. tt))

@@ -3,4 +3,5 @@ use Rattle.afdx_input_runs.proofs.SeenOrderLemmas.{two-go-on}
 use Rattle.afdx_input_runs.proofs.seen_frames.ByRoleWatchedRunInputByRoleRecordingOptionsSeen.orders.Goals as goal
 
 pub returns : goal.returns
-returns g c options ports bytes rest past answer h = two-go-on g.R.Read.remaining options ports bytes rest (frames_of past) answer h
+returns g c options ports bytes rest past answer h =
+    two-go-on g.R.Read.remaining options ports bytes rest (frames_of past) answer h

@@ -17,8 +17,8 @@ returns-clause-polices g c commanded = (
       c.end_input.ensures.status c.end_input.ensures.summary c.end_input.ensures.tally
       c.end_input.ensures.told c.end_input.ensures.silent c.police_over-answer.ensures.ended
       c.police_over-answer.ensures.read c.police_over-answer.ensures.write,
-  subst (λ (rule : Rule). IfSome (g.A.Arrivals.known c.args.input.now) (λ bytes. Polices rule
-      (g.A.Arrivals.Takes c.args.options (one_port rule.port) bytes c.police_over-answer.new.input)
+  subst (λ (rule : Rule). IfSome (g.A.RunInput.known c.args.input.now) (λ bytes. Polices rule
+      (g.A.RunInput.Takes c.args.options (one_port rule.port) bytes c.police_over-answer.new.input)
       (g.O.Sink.written c.args.output.now) (g.O.Sink.written c.police_over-answer.new.output)
       c.police_over-answer.result)) c.in-Some.ensures.given c.police_over-answer.ensures.polices,
 )

@@ -9,10 +9,10 @@ pub returns-in_err-count-clause-polices : goal.returns-in_err-count-clause-polic
 returns-in_err-count-clause-polices g c =
     let rule = rule_of c.args.rule.now in
     let old = g.O.Sink.written c.args.output.now in
-    let takes = λ (bytes : g.A.Arrivals.Bytes). g.A.Arrivals.Takes c.args.options (one_port rule.port) bytes
+    let takes = λ (bytes : g.A.RunInput.Bytes). g.A.RunInput.Takes c.args.options (one_port rule.port) bytes
     c.tell_all.new.self in
     let so = polices-known rule takes c.tell_all.new.machine old (g.O.Sink.written c.tell_all.new.output)
-    (g.A.Arrivals.known c.args.input.now) (Err c.in_err-count.field-0.0)
+    (g.A.RunInput.known c.args.input.now) (Err c.in_err-count.field-0.0)
     (c.in_err-count.ensures.answer rule (c.new-police.ensures old) (λ item. tt)) in
     search rules
 
@@ -21,10 +21,10 @@ pub returns-clause-polices : goal.returns-clause-polices
 returns-clause-polices g c =
     let rule = rule_of c.args.rule.now in
     let old = g.O.Sink.written c.args.output.now in
-    let takes = λ (bytes : g.A.Arrivals.Bytes). g.A.Arrivals.Takes c.args.options (one_port rule.port) bytes
+    let takes = λ (bytes : g.A.RunInput.Bytes). g.A.RunInput.Takes c.args.options (one_port rule.port) bytes
     c.tell_all.new.self in
     rw c.of.ensures (polices-known rule takes c.tell_all.new.machine old (g.O.Sink.written c.tell_all.new.output)
-    (g.A.Arrivals.known c.args.input.now) (Ok c.in_ok-count.count)
+    (g.A.RunInput.known c.args.input.now) (Ok c.in_ok-count.count)
     (c.in_ok-count.ensures.answer rule (c.new-police.ensures old) (λ item. tt)))
 
 pub tell_all-requires-clause-told : goal.tell_all-requires-clause-told

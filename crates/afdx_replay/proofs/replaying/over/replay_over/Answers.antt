@@ -12,9 +12,9 @@ returns-in-Err-clause-replays g c =
     let t = c.args.tables.now in
     let ports = ports_of_one t in
     let old = g.O.Sink.written c.args.output.now in
-    let takes = λ (bytes : g.A.Arrivals.Bytes). g.A.Arrivals.Takes c.args.options ports bytes c.args.input.now in
-    rw c.from.ensures (if-known (g.A.Arrivals.known c.args.input.now)
-    (λ (bytes : g.A.Arrivals.Bytes). Replays t (takes bytes)
+    let takes = λ (bytes : g.A.RunInput.Bytes). g.A.RunInput.Takes c.args.options ports bytes c.args.input.now in
+    rw c.from.ensures (if-known (g.A.RunInput.known c.args.input.now)
+    (λ (bytes : g.A.RunInput.Bytes). Replays t (takes bytes)
     (HearsSo g.D.Write.contents t (takes bytes) c.args.early c.args.early old old) old old (Err run.Memory))
     (λ bytes known. replays-none g.D.Write.contents t (takes bytes) c.args.early old
     (c.starts.ensures.takes c.args.options ports bytes c.args.input.now c.requires.new known)))
@@ -34,10 +34,10 @@ returns-in-Ok-count-clause-replays g c =
     let t = c.args.tables.now in
     let old = g.O.Sink.written c.args.output.now in
     let ended = c.tell_all-count.new in
-    let takes = λ (bytes : g.A.Arrivals.Bytes). g.A.Arrivals.Takes c.args.options (ports_of_one t)
+    let takes = λ (bytes : g.A.RunInput.Bytes). g.A.RunInput.Takes c.args.options (ports_of_one t)
     bytes ended.self in
     rw (c.of.ensures, c.take-early.ensures.value) (replays-known g.D.Write.contents t c.args.early ended.machine old
-    (g.O.Sink.written ended.output) takes (g.A.Arrivals.known c.args.input.now) (Ok c.in-Ok-count.count)
+    (g.O.Sink.written ended.output) takes (g.A.RunInput.known c.args.input.now) (Ok c.in-Ok-count.count)
     (λ bytes past answer took. c.orders.ensures c.args.options (ports_of_one t) bytes ended.self past
     answer took)
     (c.in-Ok-count.ensures.answer (t, c.args.early)
@@ -49,10 +49,10 @@ returns-clause-replays g c =
     let t = c.args.tables.now in
     let old = g.O.Sink.written c.args.output.now in
     let ended = c.tell_all-count.new in
-    let takes = λ (bytes : g.A.Arrivals.Bytes). g.A.Arrivals.Takes c.args.options (ports_of_one t)
+    let takes = λ (bytes : g.A.RunInput.Bytes). g.A.RunInput.Takes c.args.options (ports_of_one t)
     bytes ended.self in
     rw c.take-early.ensures.value (replays-known g.D.Write.contents t c.args.early ended.machine old
-    (g.O.Sink.written ended.output) takes (g.A.Arrivals.known c.args.input.now) (Err c.in-Err-count.fault)
+    (g.O.Sink.written ended.output) takes (g.A.RunInput.known c.args.input.now) (Err c.in-Err-count.fault)
     (λ bytes past answer took. c.orders.ensures c.args.options (ports_of_one t) bytes ended.self past
     answer took)
     (c.in-Err-count.ensures.answer (t, c.args.early)
