@@ -12,3 +12,4 @@ pub mod CopyLemmas
 pub mod TwoNetworkLemmas
 pub mod NearnessLemmas
 pub mod OneSideLemmas
+pub mod LastLemmas

@@ -16,3 +16,5 @@ pub mod OneSide
 pub mod Senders
 pub mod TwoNetworks
 pub mod Nearness
+pub mod Courses
+pub mod LastCame

@@ -7,6 +7,7 @@
 mod copies;
 mod finding;
 mod flaws;
+mod last;
 mod late;
 pub mod laws;
 mod limits;
