@@ -13,3 +13,4 @@ pub mod TwoNetworkLemmas
 pub mod NearnessLemmas
 pub mod OneSideLemmas
 pub mod LastLemmas
+pub mod PastLemmas

@@ -15,7 +15,7 @@ const NUMBERS: usize = 256;
 
 /// Of each sequence number the moment behind the last frame of a side that had it, in ns; 0: none
 /// had it.
-#[derive(Debug)]
+#[derive(Debug, Drop)]
 pub(crate) struct LastCame {
     behind: [u64; NUMBERS],
 }

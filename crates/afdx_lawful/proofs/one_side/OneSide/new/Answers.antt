@@ -6,5 +6,6 @@ use Rattle.afdx_lawful.proofs.one_side.OneSide.new.Goals as goal
 pub returns : goal.returns
 returns c s side first = record {
   track = c.new.ensures s first;
-  waiting = ap (λ ws. all_as side ws) c.new-2.ensures.items ∙ sym (none_at_first s side);
+  last = c.new-2.ensures;
+  waiting = none_at_first s side ∙ ap (λ ws. all_as side ws) (sym c.new-3.ensures.items);
 }
