@@ -1,5 +1,5 @@
 -- One more frame that isn't damaged, on a side of a source.
-use Rattle.std.proofs.Common.{◌≡◌, ℕ, append_assoc, Bool, true, false, List, [], ◌∷◌, ◌++◌, Option, Some, None, refl, sym, ap, ap₂, ◌∙◌, subst}
+use Rattle.std.proofs.Common.{◌≡◌, ℕ, append_assoc, Bool, true, false, List, [], ◌∷◌, ◌++◌, Option, Some, None, refl, sym, ap, ap₂, ◌∙◌, subst, arith}
 use Rattle.std.specs.Prelude.{OnErr, OnOk, Result, Ok, Err, find, if◌then◌else◌, ◌||◌}
 use Rattle.std.specs.List.{list_any}
 use Rattle.std.specs.Option.{is_some}
@@ -11,9 +11,10 @@ use Rattle.afdx_frame.specs.Parts.{frame_of, number_of_frame}
 use Rattle.afdx_lawful.specs.Alone.{first_number, flawed, found_alone, is_empty, number_in}
 use Rattle.afdx_lawful.specs.Flaws.{IsWholeFrame, is_copy, is_frame, is_whole, whole_of}
 use Rattle.afdx_lawful.specs.Judged.{found_of, found_whole, found_with, too_late, waiting_of}
-use Rattle.afdx_lawful.specs.Courses.{ArePast}
+use Rattle.afdx_lawful.specs.Accepted.{ComeUpTo}
+use Rattle.afdx_lawful.specs.Courses.{AreHeld, AreOpen, ArePast, told_at}
 use Rattle.afdx_lawful.specs.LastCame.{AreLast}
-use Rattle.afdx_lawful.specs.OneSide.{AreGone, HasToWait, IsCame, StandOn, StandsOn, WaitsToo}
+use Rattle.afdx_lawful.specs.OneSide.{HasToWait, IsCame, IsNext, StandOn, StandsOn, WaitsToo}
 use Rattle.afdx_lawful.specs.Partners.{Waiting, joined, may_pair, other, partner, waiting, without_first}
 use Rattle.afdx_lawful.specs.Rings.{all_as}
 use Rattle.afdx_lawful.specs.Sources.{Came, Source, on_side}
@@ -22,7 +23,7 @@ use Rattle.afdx_lawful.specs.declared.finding.SenderFinding.{SenderFinding}
 use Rattle.afdx_lawful.specs.declared.finding.SenderFinding.TheVariants.{Differs}
 use Rattle.afdx_lawful.specs.declared.one_side.OneSide.{OneSide}
 use Rattle.afdx_lawful.specs.declared.whole.Whole.{Whole}
-use Rattle.afdx_lawful.proofs.PastLemmas.{partner_past, without_past}
+use Rattle.afdx_lawful.proofs.PastLemmas.{all_and, all_but, held_too, partner_past, without_past}
 
 -- ---- sides
 
@@ -121,20 +122,23 @@ module _ (s : Source) (side : Side) (past : List Came) (x : Came) (on : x.side �
           sym (ap (λ (l : List Waiting). found_with s x (partner s x l)) (none_wait (other side) past))
 
       pub stand_single : (gone : Side → List Waiting) (own others own' : OneSide) →
-          StandOn s side past gone own others → IsTrack s (x ∷ on_side side w) own'.track →
-          AreLast (x ∷ on_side side w) own'.last → own'.waiting ≡ own.waiting →
-          StandOn s side (x ∷ past) gone own' others
-      stand_single gone own others own' h track last same = record {
+          StandOn s side past gone own others → IsNext s side x gone own others → ComeUpTo x.time past →
+          IsTrack s (x ∷ on_side side w) own'.track → AreLast (x ∷ on_side side w) own'.last →
+          own'.waiting ≡ own.waiting → StandOn s side (x ∷ past) gone own' others
+      stand_single gone own others own' h next up track last same = record {
         here = record {
           track = subst (λ (l : List Came). IsTrack s l own'.track) (sym own_past) track;
           last = subst (λ (l : List Came). AreLast l own'.last) (sym own_past) last;
           waiting = none_wait side (x ∷ past) ∙ sym (none_wait side past) ∙ h.here.waiting
               ∙ ap (λ ws. gone side ++ all_as side ws.items) (sym same);
+          held = subst (λ ws. AreHeld s (x ∷ past) (all_as side ws.items)) (sym same)
+              (held_too s past x up (all_as side own.waiting.items) next.here);
         };
         there = record {
           track = subst (λ (l : List Came). IsTrack s l others.track) (sym other_past) h.there.track;
           last = subst (λ (l : List Came). AreLast l others.last) (sym other_past) h.there.last;
           waiting = none_wait (other side) (x ∷ past) ∙ sym (none_wait (other side) past) ∙ h.there.waiting;
+          held = held_too s past x up (all_as (other side) others.waiting.items) next.there;
         };
       }
 
@@ -164,7 +168,7 @@ module _ (s : Source) (side : Side) (past : List Came) (x : Came) (on : x.side �
           (sym (all_wait (other side) past))
 
       module _ (gone : Side → List Waiting) (own others own' others' : OneSide)
-          (h : StandOn s side past gone own others) (are-gone : AreGone s x gone)
+          (h : StandOn s side past gone own others) (next : IsNext s side x gone own others) (up : ComeUpTo x.time past)
           (track : IsTrack s (x ∷ on_side side w) own'.track) (last : AreLast (x ∷ on_side side w) own'.last)
           (kept : others'.track ≡ others.track) (kept-last : others'.last ≡ others.last)
           (rest : all_as (other side) others'.waiting.items
@@ -177,8 +181,12 @@ module _ (s : Source) (side : Side) (past : List Came) (x : Came) (on : x.side �
               (subst (λ (l : List Came). AreLast l others.last) (sym other_past) h.there.last);
           waiting = others_then ∙ ap (without_first (may_pair s x)) h.there.waiting
               ∙ without_past s x (gone (other side)) (all_as (other side) others.waiting.items)
-              (are-gone (other side))
+              (next.gone (other side))
               ∙ ap (λ (l : List Waiting). gone (other side) ++ l) (sym rest);
+          held = subst (AreHeld s (x ∷ past)) (sym rest)
+              (all_but (λ y. ComeUpTo (told_at s y) (x ∷ past)) (may_pair s x)
+              (all_as (other side) others.waiting.items)
+              (held_too s past x up (all_as (other side) others.waiting.items) next.there));
         }
 
         pub stand_paired : (y : Waiting) →
@@ -187,7 +195,7 @@ module _ (s : Source) (side : Side) (past : List Came) (x : Came) (on : x.side �
         stand_paired y found same =
             let some : list_any (may_pair s x) (waiting_of s (other side) past) ≡ true =
             any_some (may_pair s x) (waiting_of s (other side) past) y
-            (sym (ring_partner s (other side) past x _ others h.there (are-gone (other side))) ∙ found) in
+            (sym (ring_partner s (other side) past x _ others h.there (next.gone (other side))) ∙ found) in
             record {
               here = record {
                 track = subst (λ (l : List Came). IsTrack s l own'.track) (sym own_past) track;
@@ -195,6 +203,8 @@ module _ (s : Source) (side : Side) (past : List Came) (x : Came) (on : x.side �
                 waiting = own_then ∙ cond-true (list_any (may_pair s x) (waiting_of s (other side) past))
                     (waiting_of s side past) _ some
                     ∙ h.here.waiting ∙ ap (λ ws. gone side ++ all_as side ws.items) (sym same);
+                held = subst (λ ws. AreHeld s (x ∷ past) (all_as side ws.items)) (sym same)
+                    (held_too s past x up (all_as side own.waiting.items) next.here);
               };
               there = others_stand;
             }
@@ -205,7 +215,7 @@ module _ (s : Source) (side : Side) (past : List Came) (x : Came) (on : x.side �
         stand_waiting q quiet none too =
             let no : list_any (may_pair s x) (waiting_of s (other side) past) ≡ false =
             any_none (may_pair s x) (waiting_of s (other side) past)
-            (sym (ring_partner s (other side) past x _ others h.there (are-gone (other side))) ∙ none) in
+            (sym (ring_partner s (other side) past x _ others h.there (next.gone (other side))) ∙ none) in
             let known : q ≡ is_empty (found_alone s (on_side x.side w) x) =
             quiet ∙ ap (λ (o : Side). is_empty (found_alone s (on_side o w) x)) (sym on) in
             record {
@@ -219,6 +229,10 @@ module _ (s : Source) (side : Side) (past : List Came) (x : Came) (on : x.side �
                     ∙ append_assoc (gone side) (all_as side own.waiting.items)
                     (record { frame = x; is_quiet = q } ∷ [])
                     ∙ ap (λ (l : List Waiting). gone side ++ l) (sym too);
+                held = subst (AreHeld s (x ∷ past)) (sym too)
+                    (all_and (λ y. ComeUpTo (told_at s y) (x ∷ past)) (all_as side own.waiting.items)
+                    (record { frame = x; is_quiet = q })
+                    (held_too s past x up (all_as side own.waiting.items) next.here) (omega arith, up));
               };
               there = others_stand;
             }
@@ -250,17 +264,22 @@ module _ (s : Source) (past : List Came) (x : Came) (damaged : is_whole x ≡ fa
   same_waiting side = ap (λ (l : List Came). if s.is_paired then waiting s side l else []) none_more
 
   stays : (side : Side) (gone : List Waiting) (one : OneSide) → StandsOn s side past gone one →
+      ComeUpTo x.time past → AreOpen s x.time (all_as side one.waiting.items) →
       StandsOn s side (x ∷ past) gone one
-  stays side gone one h = record {
+  stays side gone one h up fits = record {
     track = subst (λ (l : List Came). IsTrack s (on_side side l) one.track) (sym none_more) h.track;
     last = subst (λ (l : List Came). AreLast (on_side side l) one.last) (sym none_more) h.last;
     waiting = same_waiting side ∙ h.waiting;
+    held = held_too s past x up (all_as side one.waiting.items) fits;
   }
 
   pub stand_still : (side : Side) (gone : Side → List Waiting) (own others : OneSide) →
-      StandOn s side past gone own others → StandOn s side (x ∷ past) gone own others
-  stand_still side gone own others h =
-      record { here = stays side _ own h.here; there = stays (other side) _ others h.there }
+      StandOn s side past gone own others → IsNext s side x gone own others → ComeUpTo x.time past →
+      StandOn s side (x ∷ past) gone own others
+  stand_still side gone own others h next up = record {
+    here = stays side _ own h.here up next.here;
+    there = stays (other side) _ others h.there up next.there;
+  }
 
 -- the sides the other way round
 pub turned : (s : Source) (xs : List Came) (gone : Side → List Waiting) (a b : OneSide) →

@@ -5,7 +5,8 @@ use Rattle.std.specs.Prelude.{find, if◌then◌else◌, ◌||◌, ◌&&◌, nat
 use Rattle.std.specs.List.{AllByRecursion, list_any}
 use Rattle.std.proofs.lemmas.Bool.{lt-leb}
 use Rattle.afdx_lawful.specs.Alone.{number_in}
-use Rattle.afdx_lawful.specs.Courses.{ArePast, told_at}
+use Rattle.afdx_lawful.specs.Accepted.{ComeUpTo}
+use Rattle.afdx_lawful.specs.Courses.{AreHeld, AreOpen, ArePast, told_at}
 use Rattle.afdx_lawful.specs.Partners.{Waiting, may_pair, partner, without_first}
 use Rattle.afdx_lawful.specs.Sources.{Came, Source, hold}
 
@@ -64,3 +65,26 @@ pub past_later : (s : Source) (time later : ℕ) (ys : List Waiting) → time �
     ArePast s later ys
 past_later s time later [] up h = h
 past_later s time later (y ∷ ys) up h = (omega (arith, up, h.0), past_later s time later ys up h.1)
+
+-- ---- what holds of all
+
+module _ {X : Type 0} (P : X → Type 0) where
+  pub all_but : (p : X → Bool) (xs : List X) → AllByRecursion P xs → AllByRecursion P (without_first p xs)
+  unfolding without_first
+  all_but p [] h = h
+  all_but p (x ∷ xs) h = by (p x) (all_but p xs h.1)
+    where
+      by : (b : Bool) → AllByRecursion P (without_first p xs) →
+          AllByRecursion P (if b then xs else x ∷ without_first p xs)
+      by true rest = h.1
+      by false rest = (h.0, rest)
+
+  pub all_and : (xs : List X) (x : X) → AllByRecursion P xs → P x → AllByRecursion P (xs ++ x ∷ [])
+  all_and [] x h last = (last, h)
+  all_and (y ∷ xs) x h last = (h.0, all_and xs x h.1 last)
+
+-- one more frame came, of which each can be a copy
+pub held_too : (s : Source) (past : List Came) (x : Came) → ComeUpTo x.time past → (ys : List Waiting) →
+    AreOpen s x.time ys → AreHeld s (x ∷ past) ys
+held_too s past x up [] h = h
+held_too s past x up (y ∷ ys) h = ((h.0, up), held_too s past x up ys h.1)

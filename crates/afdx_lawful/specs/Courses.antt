@@ -90,6 +90,10 @@ module _ (s : Source) where
   abbrev pub ArePast : ℕ → List Waiting → Type 0
   ArePast time ys = AllByRecursion (λ y. told_at y < time) ys
 
+  -- these can be, of one of this time
+  abbrev pub AreOpen : ℕ → List Waiting → Type 0
+  AreOpen time ys = AllByRecursion (λ y. time ≤ told_at y) ys
+
   -- no frame came behind the moments at which these are told
   abbrev pub AreHeld : List Came → List Waiting → Type 0
   AreHeld xs ys = AllByRecursion (λ y. ComeUpTo (told_at y) xs) ys
@@ -98,9 +102,17 @@ module _ (s : Source) where
   abbrev pub AreJudged : List Came → List Unpaired → Type 0
   AreJudged xs us = AllByRecursion (λ u. u.is_cut ≡ is_cut_of s xs u.waited) us
 
-  -- Frames come by time. What was told is past, and is right; what waits isn't told too late.
+  -- Frames come by time, and what was told is past, and right.
   pub record IsCourse (c : Course) : Type 0 where
     pub by_time : ComeUpTo c.reached c.came
     pub past : (side : Side) → ArePast c.reached (waited_on c side)
     pub judged : (side : Side) → AreJudged c.came (over c side)
-    pub held : (side : Side) → AreHeld c.came (still_waiting c side)
+
+  -- none is left that waits
+  abbrev pub AllTold : Course → Type 0
+  AllTold c = (side : Side) → waiting_of s side c.came ≡ waited_on c side
+
+  -- the recordings end then; or that isn't known, but not before the frame is told
+  abbrev pub IsKnownBy : Option ℕ → Waiting → Type 0
+  IsKnownBy None y = told_at y ≤ s.until
+  IsKnownBy (Some until) y = s.until ≡ until

@@ -18,3 +18,6 @@ pub mod TwoNetworks
 pub mod Nearness
 pub mod Courses
 pub mod LastCame
+pub mod Tallies
+pub mod Unpaired
+pub mod Sides

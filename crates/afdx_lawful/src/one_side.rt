@@ -1,69 +1,34 @@
 //! The frames of a source on one network, and one more of them.
 
-ghost use Rattle.std.specs.Prelude.{◌≡◌, ◌≤◌, List, ◌∷◌, IfOk, OnErr, OnOk, Some};
+ghost use Rattle.std.specs.Prelude.{◌≡◌, ◌≤◌, List, ◌∷◌, length, option_map, Some};
+ghost use Rattle.std.specs.Prelude.{IfOk, IfSome, OnErr, OnOk};
 ghost use Rattle.afdx_frame.specs.declared.link.Side.{Side};
 ghost use Rattle.afdx_frame.specs.Times.{latest_listed};
+ghost use Rattle.afdx_lawful.specs.Accepted.{ComeUpTo};
 ghost use Rattle.afdx_lawful.specs.Alone.{number_in};
+ghost use Rattle.afdx_lawful.specs.Courses.{oldest};
 ghost use Rattle.afdx_lawful.specs.Flaws.{flaw_of};
 ghost use Rattle.afdx_lawful.specs.Judged.{found_of, found_with};
 ghost use Rattle.afdx_lawful.specs.LastCame.{AreLast};
-ghost use Rattle.afdx_lawful.specs.OneSide.{AreGone, HasToWait, IsCame, StandOn, StandsOn};
+ghost use Rattle.afdx_lawful.specs.OneSide.{HasToWait, IsCame, IsNext, StandOn, StandsOn};
 ghost use Rattle.afdx_lawful.specs.OneSide.{WaitsToo, told_copy, told_heard};
 ghost use Rattle.afdx_lawful.specs.Partners.{Waiting};
-ghost use Rattle.afdx_lawful.specs.Rings.{waiting_as};
+ghost use Rattle.afdx_lawful.specs.Rings.{all_as, waiting_as};
 ghost use Rattle.afdx_lawful.specs.Sources.{Came, Source as Terms};
 ghost use Rattle.afdx_lawful.specs.Ways.{AreTerms};
 
 use crate::copies::is_copy;
 use crate::finding::Flaw;
+use crate::heard::{Copied, HeardFrame};
 use crate::last::LastCame;
 use crate::late::too_late;
 use crate::partners::take_partner;
-use crate::track::{Alone, Track};
+use crate::track::Track;
 use crate::waits::Waits;
 use crate::ways::SourceTerms;
 use crate::whole::Whole;
 use afdx_conform::{CheckedBytes, Spare};
 use std::alloc::{AllocError, Global};
-
-/// What is found of a frame by its copy on the other network.
-#[derive(Clone, Copy, Debug, PartialEq, Eq)]
-pub(crate) enum Copied {
-    /// Nothing: it came in time, or is waited for.
-    Well,
-    /// It isn't the same.
-    Differs,
-    /// It came so many ns too late.
-    Late(u64),
-}
-
-/// What is found of a frame when it comes.
-#[derive(Clone, Copy, Debug)]
-pub(crate) struct HeardFrame {
-    pub alone: Alone,
-    pub copied: Copied,
-}
-
-impl HeardFrame {
-    ghost use Rattle.std.specs.Prelude.{ℕ, option_map, option_to_list};
-    ghost use Rattle.afdx_lawful.specs.declared.finding.SenderFinding.TheVariants.{Unlawful};
-
-    /// Nothing is found but what is wrong with the frame by itself.
-    pub fn damaged(flaw: Option<Flaw>) -> HeardFrame
-        ensures { (line : ℕ) → told_heard line result
-            ≡ option_to_list (option_map (Unlawful line) flaw) }
-    {
-        let alone = Alone {
-            flaw,
-            number: None,
-            soon: None,
-        };
-        HeardFrame {
-            alone,
-            copied: Copied::Well,
-        }
-    }
-}
 
 /// What is found of a frame by its partner.
 fn compare(terms: &SourceTerms, whole: Whole<'_>, partner: &Waits) -> Copied
@@ -86,8 +51,8 @@ fn compare(terms: &SourceTerms, whole: Whole<'_>, partner: &Waits) -> Copied
 #[derive(Debug, Drop)]
 pub(crate) struct OneSide {
     track: Track,
-    last: LastCame,
-    waiting: Vec<Waits>,
+    pub last: LastCame,
+    pub waiting: Vec<Waits>,
 }
 
 impl OneSide {
@@ -105,6 +70,25 @@ impl OneSide {
             last: LastCame::new(),
             waiting: Vec::new(alloc),
         }
+    }
+
+    /// When, in ns, the oldest frame came that waits.
+    pub fn oldest(&self) -> Option<u64>
+        ensures time { (side : Side) → result ≡ option_map (λ y. y.frame.time)
+            (oldest (all_as side self.now.waiting.items)) }
+        ensures listed { IfSome result (λ time. time ≤ latest_listed) }
+    {
+        match self.waiting.first() {
+            Some(waits) => Some(waits.time),
+            None => None,
+        }
+    }
+
+    /// How many frames wait.
+    pub fn held(&self) -> usize
+        ensures { result ≡ length self.now.waiting.items }
+    {
+        self.waiting.len()
     }
 
     /// A frame waits for its copy. The error says that memory was refused.
@@ -157,17 +141,18 @@ pub(crate) fn hear(
 ) -> Result<HeardFrame, AllocError>
     ensures found { (s : Terms) (side : Side) (past : List Came) (gone : Side → List Waiting)
         (x : Came) → AreTerms s terms.now → IsCame side whole.entry x → flaw ≡ flaw_of s x →
-        AreGone s x gone → StandOn s side past gone own.old other.old →
+        IsNext s side x gone own.old other.old → StandOn s side past gone own.old other.old →
         IfOk result (λ heard. told_heard whole.entry.line heard ≡ found_of s past x) }
     ensures stand { (s : Terms) (side : Side) (past : List Came) (gone : Side → List Waiting)
         (x : Came) → AreTerms s terms.now → IsCame side whole.entry x → flaw ≡ flaw_of s x →
-        AreGone s x gone → StandOn s side past gone own.old other.old →
+        IsNext s side x gone own.old other.old → ComeUpTo x.time past →
+        StandOn s side past gone own.old other.old →
         OnOk result (StandOn s side (x ∷ past) gone own.new other.new) }
     ensures refused { (s : Terms) (side : Side) (past : List Came) (gone : Side → List Waiting) →
         StandOn s side past gone own.old other.old →
         OnErr result (StandOn s side past gone own.new other.new) }
     ensures waits { (s : Terms) (side : Side) (past : List Came) (gone : Side → List Waiting)
-        (x : Came) → AreTerms s terms.now → IsCame side whole.entry x → AreGone s x gone →
+        (x : Came) → AreTerms s terms.now → IsCame side whole.entry x → IsNext s side x gone own.old other.old →
         StandOn s side past gone own.old other.old → OnErr result (HasToWait s past x) }
 {
     let mut track = own.track;

@@ -13,7 +13,7 @@ use Rattle.afdx_lawful.proofs.OneSideLemmas.{has_to_wait, on_err, ring_partner, 
 use Rattle.afdx_lawful.proofs.one_side.hear.Goals as goal
 
 pub returns-then-not-terms-clause-found : goal.returns-then-not-terms-clause-found
-returns-then-not-terms-clause-found c s side past gone x are is flaw are-gone stand =
+returns-then-not-terms-clause-found c s side past gone x are is flaw next stand =
     let whole = came_whole side c.args.whole x is in
     let number = came_number side c.args.whole x is in
     found_is s side past x is.on whole _ _
@@ -22,16 +22,16 @@ returns-then-not-terms-clause-found c s side past gone x are is flaw are-gone st
     (no_copy s side past x is.on whole (are.paired ∙ c.if-not-terms.true))
 
 pub returns-then-not-terms-clause-stand : goal.returns-then-not-terms-clause-stand
-returns-then-not-terms-clause-stand c s side past gone x are is flaw are-gone stand =
+returns-then-not-terms-clause-stand c s side past gone x are is flaw next up stand =
     let whole = came_whole side c.args.whole x is in
     let number = came_number side c.args.whole x is in
-    stand_single s side past x is.on whole (are.paired ∙ c.if-not-terms.true) gone _ _ _ stand
+    stand_single s side past x is.on whole (are.paired ∙ c.if-not-terms.true) gone _ _ _ stand next up
     (subst (λ t. IsTrack s (x ∷ on_side side (whole_of past)) t) (sym c.pass.ensures.track)
     (c.come-alone.ensures.stands s _ x are.limits is.time number stand.here.track))
     (c.pass.ensures.last _ x is.time number stand.here.last) c.pass.ensures.waiting
 
 pub returns-in-Some-clause-found : goal.returns-in-Some-clause-found
-returns-in-Some-clause-found c s side past gone x are is flaw are-gone stand =
+returns-in-Some-clause-found c s side past gone x are is flaw next stand =
     let whole = came_whole side c.args.whole x is in
     let number = came_number side c.args.whole x is in
     found_is s side past x is.on whole _ _
@@ -39,13 +39,13 @@ returns-in-Some-clause-found c s side past gone x are is flaw are-gone stand =
     ∙ c.come-alone.ensures.found s _ x are.limits is.time number flaw stand.here.track)
     (c.compare-copied.ensures s side (other side) x are is
     ∙ ap (found_with s x) (c.in-Some.ensures.partner s (other side) x are.limits is.time number)
-    ∙ ap (found_with s x) (ring_partner s (other side) past x _ _ stand.there (are-gone (other side))))
+    ∙ ap (found_with s x) (ring_partner s (other side) past x _ _ stand.there (next.gone (other side))))
 
 pub returns-in-Some-clause-stand : goal.returns-in-Some-clause-stand
-returns-in-Some-clause-stand c s side past gone x are is flaw are-gone stand =
+returns-in-Some-clause-stand c s side past gone x are is flaw next up stand =
     let whole = came_whole side c.args.whole x is in
     let number = came_number side c.args.whole x is in
-    stand_paired s side past x is.on whole (are.paired ∙ c.if-not-terms.false) gone _ _ _ _ stand are-gone
+    stand_paired s side past x is.on whole (are.paired ∙ c.if-not-terms.false) gone _ _ _ _ stand next up
     (subst (λ t. IsTrack s (x ∷ on_side side (whole_of past)) t) (sym c.pass-in-Some.ensures.track)
     (c.come-alone.ensures.stands s _ x are.limits is.time number stand.here.track))
     (c.pass-in-Some.ensures.last _ x is.time number stand.here.last) refl refl
@@ -54,29 +54,29 @@ returns-in-Some-clause-stand c s side past gone x are is flaw are-gone stand =
     (sym (c.in-Some.ensures.partner s (other side) x are.limits is.time number)) c.pass-in-Some.ensures.waiting
 
 pub returns-in_err-wait-in-None-clause-waits : goal.returns-in_err-wait-in-None-clause-waits
-returns-in_err-wait-in-None-clause-waits c s side past gone x are is are-gone stand =
+returns-in_err-wait-in-None-clause-waits c s side past gone x are is next stand =
     let number = came_number side c.args.whole x is in
     on_err c.from_residual.result _ (
       has_to_wait s side past x is.on (came_whole side c.args.whole x is) (are.paired ∙ c.if-not-terms.false)
-      (sym (ring_partner s (other side) past x _ _ stand.there (are-gone (other side)))
+      (sym (ring_partner s (other side) past x _ _ stand.there (next.gone (other side)))
       ∙ sym (c.in-None.ensures.partner s (other side) x are.limits is.time number))
     )
 
 pub returns-in_ok-wait-in-None-clause-found : goal.returns-in_ok-wait-in-None-clause-found
-returns-in_ok-wait-in-None-clause-found c s side past gone x are is flaw are-gone stand =
+returns-in_ok-wait-in-None-clause-found c s side past gone x are is flaw next stand =
     let whole = came_whole side c.args.whole x is in
     let number = came_number side c.args.whole x is in
     found_is s side past x is.on whole _ _
     (ap (λ line. told_alone line c.come-alone.result) (sym is.line)
     ∙ c.come-alone.ensures.found s _ x are.limits is.time number flaw stand.here.track)
     (ap (found_with s x) (c.in-None.ensures.partner s (other side) x are.limits is.time number)
-    ∙ ap (found_with s x) (ring_partner s (other side) past x _ _ stand.there (are-gone (other side))))
+    ∙ ap (found_with s x) (ring_partner s (other side) past x _ _ stand.there (next.gone (other side))))
 
 pub returns-in_ok-wait-in-None-clause-stand : goal.returns-in_ok-wait-in-None-clause-stand
-returns-in_ok-wait-in-None-clause-stand c s side past gone x are is flaw are-gone stand =
+returns-in_ok-wait-in-None-clause-stand c s side past gone x are is flaw next up stand =
     let whole = came_whole side c.args.whole x is in
     let number = came_number side c.args.whole x is in
-    stand_waiting s side past x is.on whole (are.paired ∙ c.if-not-terms.false) gone _ _ _ _ stand are-gone
+    stand_waiting s side past x is.on whole (are.paired ∙ c.if-not-terms.false) gone _ _ _ _ stand next up
     (subst (λ t. IsTrack s (x ∷ on_side side (whole_of past)) t) (sym c.pass-in-None.ensures.track)
     (c.come-alone.ensures.stands s _ x are.limits is.time number stand.here.track))
     (c.pass-in-None.ensures.last _ x is.time number
