@@ -14,3 +14,5 @@ pub mod NearnessLemmas
 pub mod OneSideLemmas
 pub mod LastLemmas
 pub mod PastLemmas
+pub mod TallyLemmas
+pub mod CountLemmas

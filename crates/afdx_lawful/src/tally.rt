@@ -1,6 +1,6 @@
 //! What is counted of a source.
 
-ghost use Rattle.std.specs.Prelude.{◌≡◌, ◌<◌, ◌^◌, length, ℕ};
+ghost use Rattle.std.specs.Prelude.{◌≡◌, ◌<◌, ◌^◌, if◌then◌else◌, length};
 ghost use Rattle.afdx_lawful.specs.Alone.{is_empty};
 ghost use Rattle.afdx_lawful.specs.Courses.{AllTold, Course, IsCourse, came_too, told_too};
 ghost use Rattle.afdx_lawful.specs.Judged.{found_of, is_cut_of};
@@ -24,6 +24,13 @@ pub(crate) struct SourceTally {
     cut: u64,
 }
 
+/// 1, if it is so.
+fn one_if(is_so: bool) -> u64
+    ensures { result ≡ (if is_so then 1 else 0) }
+{
+    if is_so { 1 } else { 0 }
+}
+
 impl SourceTally {
     ghost use Rattle.afdx_lawful.specs.Courses.{at_first};
     ghost use Rattle.afdx_lawful.specs.Tallies.{IsTally, TellsAll};
@@ -44,7 +51,7 @@ impl SourceTally {
         ensures { (s : Terms) (c : Course) (x : Came) → is_quiet ≡ is_empty (found_of s c.came x) →
             IsTally s c self.old → IsTally s (came_too c x) self.new }
     {
-        self.quiet = self.quiet.saturating_add(is_quiet as u64);
+        self.quiet = self.quiet.saturating_add(one_if(is_quiet));
     }
 
     /// One more waited in vain: whether its copy is cut off, and whether nothing was found of it
@@ -56,7 +63,7 @@ impl SourceTally {
         if is_cut {
             self.cut = self.cut.saturating_add(1);
         } else {
-            self.lost = self.lost.saturating_add(is_quiet as u64);
+            self.lost = self.lost.saturating_add(one_if(is_quiet));
         }
     }
 
