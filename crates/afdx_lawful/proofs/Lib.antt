@@ -16,3 +16,7 @@ pub mod LastLemmas
 pub mod PastLemmas
 pub mod TallyLemmas
 pub mod CountLemmas
+pub mod CutLemmas
+pub mod StandLemmas
+pub mod CourseLemmas
+pub mod SenderLemmas

@@ -343,3 +343,7 @@ pub first_known : (s : Source) (o : Option ℕ) (b : Bool) → b ≡ is_some o �
     first_number s s.by.start ≡ (if b then None else Some 0)
 first_known s o b is same =
     ap (first_number s) same ∙ first_by s o ∙ ap (λ (c : Bool). if c then None else Some 0) (sym is)
+
+pub on_err_by : {T E : Type 0} (r : Result T E) (P Q : Type 0) → (P → Q) → OnErr r P → OnErr r Q
+on_err_by (Ok t) P Q f h = h
+on_err_by (Err e) P Q f h = f h

@@ -107,7 +107,7 @@ module _ (s : Source) (c : Course) (y : Waiting) (tally : SourceTally) where
   cut_then A = omega (arith, cut_more c.over_a u)
   cut_then B = omega (arith, cut_more c.over_b u)
 
-  same_came : (side : Side) → (told_on s c y side).came ≡ c.came
+  pub same_came : (side : Side) → (told_on s c y side).came ≡ c.came
   same_came A = refl
   same_came B = refl
 

@@ -32,7 +32,10 @@ at_first = record { came = []; over_a = []; over_b = []; reached = 0 }
 -- one more frame came
 abbrev pub came_too : Course → Came → Course
 came_too c x = record {
-  came = x ∷ c.came; over_a = c.over_a; over_b = c.over_b; reached = x.time;
+  came = x ∷ c.came;
+  over_a = c.over_a;
+  over_b = c.over_b;
+  reached = x.time;
 }
 
 abbrev pub waited_of : List Unpaired → List Waiting

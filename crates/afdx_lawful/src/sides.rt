@@ -6,7 +6,7 @@ ghost use Rattle.afdx_frame.specs.Times.{latest_listed};
 ghost use Rattle.afdx_frame.specs.declared.link.Side.{Side};
 ghost use Rattle.afdx_lawful.specs.Accepted.{ComeUpTo};
 ghost use Rattle.afdx_lawful.specs.Alone.{first_number};
-ghost use Rattle.afdx_lawful.specs.Courses.{Course, IsKnownBy, oldest, waited_on};
+ghost use Rattle.afdx_lawful.specs.Courses.{Course, IsKnownBy, at_first, oldest, waited_on};
 ghost use Rattle.afdx_lawful.specs.Flaws.{flaw_of};
 ghost use Rattle.afdx_lawful.specs.Judged.{found_of};
 ghost use Rattle.afdx_lawful.specs.OneSide.{HasToWait, IsCame, told_heard};
@@ -38,9 +38,8 @@ pub(crate) struct BothSides {
 impl BothSides {
     /// Nothing came yet; the first number is 0, unless frames came before the recordings.
     pub fn new(alloc: Global, is_begun: bool) -> BothSides
-        ensures { (s : Terms) (gone : Side → List Waiting) → ((side : Side) → gone side ≡ []) →
-            first_number s s.by.start ≡ (if is_begun then None else Some 0) →
-            StandBoth s [] gone result }
+        ensures { (s : Terms) → first_number s s.by.start ≡ (if is_begun then None else Some 0) →
+            StandBoth s [] (waited_on at_first) result }
     {
         BothSides {
             a: OneSide::new(alloc, is_begun),
@@ -83,11 +82,21 @@ impl BothSides {
         ensures next { result ≡ option_map (λ y. (y.frame.side, y.frame.time)) (next_in self.now) }
         ensures listed { IfSome result (λ next. next.1 ≤ latest_listed) }
     {
-        match (self.a.oldest(), self.b.oldest()) {
-            (Some(a), Some(b)) if b < a => Some((Side::B, b)),
-            (Some(a), _) => Some((Side::A, a)),
-            (None, Some(b)) => Some((Side::B, b)),
-            (None, None) => None,
+        let Some(a) = self.a.oldest() else {
+            return match self.b.oldest() {
+                Some(b) => Some((Side::B, b)),
+                None => None,
+            };
+        };
+        match self.b.oldest() {
+            Some(b) => {
+                if b < a {
+                    Some((Side::B, b))
+                } else {
+                    Some((Side::A, a))
+                }
+            }
+            None => Some((Side::A, a)),
         }
     }
 

@@ -1,13 +1,16 @@
 //! Frames that waited for their copies in vain.
 
-ghost use Rattle.std.specs.Prelude.{◌≡◌, ◌≤◌, ◌+◌, nat_lt, List, [], length, IfNone, IfSome, Some};
+ghost use Rattle.std.specs.Prelude.{◌≡◌, ℕ, ◌≤◌, ◌+◌, ◌&&◌, not, nat_le, nat_lt};
+ghost use Rattle.std.specs.Prelude.{List, [], length, IfNone, IfSome, Some};
+ghost use Rattle.std.specs.List.{list_any};
 ghost use Rattle.afdx_frame.specs.Times.{latest_listed};
 ghost use Rattle.afdx_frame.specs.declared.link.Side.{Side};
 ghost use Rattle.afdx_lawful.specs.Accepted.{ComeUpTo};
+ghost use Rattle.afdx_lawful.specs.Alone.{number_in};
 ghost use Rattle.afdx_lawful.specs.Courses.{Course, IsKnownBy, oldest, told_at, waited_on};
 ghost use Rattle.afdx_lawful.specs.Flaws.{whole_of};
 ghost use Rattle.afdx_lawful.specs.Judged.{is_cut_of};
-ghost use Rattle.afdx_lawful.specs.LastCame.{AreLast};
+ghost use Rattle.afdx_lawful.specs.LastCame.{AreLast, stands_so};
 ghost use Rattle.afdx_lawful.specs.OneSide.{StandOn};
 ghost use Rattle.afdx_lawful.specs.Partners.{Waiting, is_before, other};
 ghost use Rattle.afdx_lawful.specs.Rings.{all_as, waiting_as};
@@ -58,9 +61,7 @@ fn reach_of(terms: &SourceTerms, waits: &Waits) -> u64
     ensures near { (s : Terms) → AreTerms s terms.now → result ≤ hold s }
     ensures small { result ≤ 300000000 }
 {
-    let apart = terms
-        .apart
-        .of(&terms.limits, waits.bytes.length());
+    let apart = terms.apart.of(&terms.limits, waits.bytes.length());
     apart + terms.limits.slip
 }
 
@@ -91,6 +92,20 @@ fn may_be_before(start: Option<u64>, time: u64, reach: u64) -> bool
     }
 }
 
+/// Whether it may be so, and no frame that came at this moment, in ns, or later tells otherwise: one
+/// whose number stands 1 to 127 steps behind this one, or before it.
+fn is_unsaid(may_be: bool, others: &LastCame, moment: u64, is_later: bool, number: u8) -> bool
+    ensures { (xs : List Came) (end : ℕ) → AreLast xs others.now → ComeUpTo end xs →
+        result ≡ (may_be && not (list_any
+        (λ x. nat_le moment x.time && stands_so is_later number (number_in x)) xs)) }
+{
+    if may_be {
+        !others.any_since(moment, is_later, number)
+    } else {
+        false
+    }
+}
+
 /// Whether the copy of a frame that waited in vain may be stamped behind the end, or before the
 /// start: of the other side's frames none tells otherwise.
 fn is_cut(terms: &SourceTerms, waits: &Waits, others: &LastCame, end: Option<u64>) -> bool
@@ -101,13 +116,12 @@ fn is_cut(terms: &SourceTerms, waits: &Waits, others: &LastCame, end: Option<u64
         result ≡ is_cut_of s xs (waiting_as side waits.now) }
 {
     let reach = reach_of(terms, waits);
-    let earliest = waits.time.saturating_sub(terms.limits.hold);
-    let behind = may_be_behind(end, waits.time, reach);
-    if behind && !others.any_since(earliest, true, waits.number) {
-        return true;
-    }
-    let before = may_be_before(terms.start, waits.time, reach);
-    before && !others.any_since(earliest, false, waits.number)
+    let moment = waits.time.saturating_sub(terms.limits.hold);
+    let may_be_later = may_be_behind(end, waits.time, reach);
+    let may_be_sooner = may_be_before(terms.start, waits.time, reach);
+    let is_behind = is_unsaid(may_be_later, others, moment, true, waits.number);
+    let is_before = is_unsaid(may_be_sooner, others, moment, false, waits.number);
+    is_behind || is_before
 }
 
 /// The oldest frame of a side that waits is told, and waits no longer. `end` is the time in ns at

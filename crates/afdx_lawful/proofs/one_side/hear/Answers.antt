@@ -57,9 +57,9 @@ pub returns-in_err-wait-in-None-clause-waits : goal.returns-in_err-wait-in-None-
 returns-in_err-wait-in-None-clause-waits c s side past gone x are is next stand =
     let number = came_number side c.args.whole x is in
     on_err c.from_residual.result _ (
-      has_to_wait s side past x is.on (came_whole side c.args.whole x is) (are.paired ∙ c.if-not-terms.false)
-      (sym (ring_partner s (other side) past x _ _ stand.there (next.gone (other side)))
-      ∙ sym (c.in-None.ensures.partner s (other side) x are.limits is.time number))
+    has_to_wait s side past x is.on (came_whole side c.args.whole x is) (are.paired ∙ c.if-not-terms.false)
+    (sym (ring_partner s (other side) past x _ _ stand.there (next.gone (other side)))
+    ∙ sym (c.in-None.ensures.partner s (other side) x are.limits is.time number))
     )
 
 pub returns-in_ok-wait-in-None-clause-found : goal.returns-in_ok-wait-in-None-clause-found
