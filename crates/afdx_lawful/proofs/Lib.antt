@@ -12,3 +12,11 @@ pub mod CopyLemmas
 pub mod TwoNetworkLemmas
 pub mod NearnessLemmas
 pub mod OneSideLemmas
+pub mod LastLemmas
+pub mod PastLemmas
+pub mod TallyLemmas
+pub mod CountLemmas
+pub mod CutLemmas
+pub mod StandLemmas
+pub mod CourseLemmas
+pub mod SenderLemmas

@@ -1,6 +1,6 @@
 -- One more frame that isn't damaged, on a side of a source.
-use Rattle.std.proofs.Common.{◌≡◌, ℕ, Bool, true, false, List, [], ◌∷◌, ◌++◌, Option, Some, None, refl, sym, ap, ap₂, ◌∙◌, subst}
-use Rattle.std.specs.Prelude.{OnOk, Result, Ok, Err, find, if◌then◌else◌, ◌||◌}
+use Rattle.std.proofs.Common.{◌≡◌, ℕ, append_assoc, Bool, true, false, List, [], ◌∷◌, ◌++◌, Option, Some, None, refl, sym, ap, ap₂, ◌∙◌, subst, arith}
+use Rattle.std.specs.Prelude.{OnErr, OnOk, Result, Ok, Err, find, if◌then◌else◌, ◌||◌}
 use Rattle.std.specs.List.{list_any}
 use Rattle.std.specs.Option.{is_some}
 use Rattle.std.proofs.lemmas.Bool.{cond-true, cond-false}
@@ -11,7 +11,10 @@ use Rattle.afdx_frame.specs.Parts.{frame_of, number_of_frame}
 use Rattle.afdx_lawful.specs.Alone.{first_number, flawed, found_alone, is_empty, number_in}
 use Rattle.afdx_lawful.specs.Flaws.{IsWholeFrame, is_copy, is_frame, is_whole, whole_of}
 use Rattle.afdx_lawful.specs.Judged.{found_of, found_whole, found_with, too_late, waiting_of}
-use Rattle.afdx_lawful.specs.OneSide.{IsCame, StandOn, StandsOn, WaitsToo}
+use Rattle.afdx_lawful.specs.Accepted.{ComeUpTo}
+use Rattle.afdx_lawful.specs.Courses.{AreHeld, AreOpen, ArePast, told_at}
+use Rattle.afdx_lawful.specs.LastCame.{AreLast}
+use Rattle.afdx_lawful.specs.OneSide.{HasToWait, IsCame, IsNext, StandOn, StandsOn, WaitsToo}
 use Rattle.afdx_lawful.specs.Partners.{Waiting, joined, may_pair, other, partner, waiting, without_first}
 use Rattle.afdx_lawful.specs.Rings.{all_as}
 use Rattle.afdx_lawful.specs.Sources.{Came, Source, on_side}
@@ -20,6 +23,7 @@ use Rattle.afdx_lawful.specs.declared.finding.SenderFinding.{SenderFinding}
 use Rattle.afdx_lawful.specs.declared.finding.SenderFinding.TheVariants.{Differs}
 use Rattle.afdx_lawful.specs.declared.one_side.OneSide.{OneSide}
 use Rattle.afdx_lawful.specs.declared.whole.Whole.{Whole}
+use Rattle.afdx_lawful.proofs.PastLemmas.{all_and, all_but, held_too, partner_past, without_past}
 
 -- ---- sides
 
@@ -51,6 +55,14 @@ module _ {X : Type 0} (p : X → Bool) where
           (if b then Some x else find p xs) ≡ Some y → b || list_any p xs ≡ true
       by true rest h = refl
       by false rest h = rest h
+
+-- ---- those that wait, without the past ones
+
+pub ring_partner : (s : Source) (o : Side) (past : List Came) (x : Came) (gone : List Waiting) (one : OneSide) →
+    StandsOn s o past gone one → ArePast s x.time gone →
+    partner s x (all_as o one.waiting.items) ≡ partner s x (waiting_of s o past)
+ring_partner s o past x gone one h are =
+    sym (partner_past s x gone (all_as o one.waiting.items) are) ∙ ap (partner s x) (sym h.waiting)
 
 -- ---- at first
 
@@ -109,18 +121,24 @@ module _ (s : Source) (side : Side) (past : List Came) (x : Came) (on : x.side �
       no_copy =
           sym (ap (λ (l : List Waiting). found_with s x (partner s x l)) (none_wait (other side) past))
 
-      pub stand_single : (own others own' : OneSide) → StandOn s side past own others →
-          IsTrack s (x ∷ on_side side w) own'.track → own'.waiting ≡ own.waiting →
-          StandOn s side (x ∷ past) own' others
-      stand_single own others own' h track same = record {
+      pub stand_single : (gone : Side → List Waiting) (own others own' : OneSide) →
+          StandOn s side past gone own others → IsNext s side x gone own others → ComeUpTo x.time past →
+          IsTrack s (x ∷ on_side side w) own'.track → AreLast (x ∷ on_side side w) own'.last →
+          own'.waiting ≡ own.waiting → StandOn s side (x ∷ past) gone own' others
+      stand_single gone own others own' h next up track last same = record {
         here = record {
           track = subst (λ (l : List Came). IsTrack s l own'.track) (sym own_past) track;
-          waiting = ap (λ ws. all_as side ws.items) same ∙ h.here.waiting
-              ∙ none_wait side past ∙ sym (none_wait side (x ∷ past));
+          last = subst (λ (l : List Came). AreLast l own'.last) (sym own_past) last;
+          waiting = none_wait side (x ∷ past) ∙ sym (none_wait side past) ∙ h.here.waiting
+              ∙ ap (λ ws. gone side ++ all_as side ws.items) (sym same);
+          held = subst (λ ws. AreHeld s (x ∷ past) (all_as side ws.items)) (sym same)
+              (held_too s past x up (all_as side own.waiting.items) next.here);
         };
         there = record {
           track = subst (λ (l : List Came). IsTrack s l others.track) (sym other_past) h.there.track;
-          waiting = h.there.waiting ∙ none_wait (other side) past ∙ sym (none_wait (other side) (x ∷ past));
+          last = subst (λ (l : List Came). AreLast l others.last) (sym other_past) h.there.last;
+          waiting = none_wait (other side) (x ∷ past) ∙ sym (none_wait (other side) past) ∙ h.there.waiting;
+          held = held_too s past x up (all_as (other side) others.waiting.items) next.there;
         };
       }
 
@@ -149,51 +167,72 @@ module _ (s : Source) (side : Side) (past : List Came) (x : Came) (on : x.side �
           ∙ ap₂ (λ (a b : List Waiting). joined s w x a b) (sym (all_wait side past))
           (sym (all_wait (other side) past))
 
-      module _ (own others own' others' : OneSide) (h : StandOn s side past own others)
-          (track : IsTrack s (x ∷ on_side side w) own'.track) (kept : others'.track ≡ others.track)
+      module _ (gone : Side → List Waiting) (own others own' others' : OneSide)
+          (h : StandOn s side past gone own others) (next : IsNext s side x gone own others) (up : ComeUpTo x.time past)
+          (track : IsTrack s (x ∷ on_side side w) own'.track) (last : AreLast (x ∷ on_side side w) own'.last)
+          (kept : others'.track ≡ others.track) (kept-last : others'.last ≡ others.last)
           (rest : all_as (other side) others'.waiting.items
           ≡ without_first (may_pair s x) (all_as (other side) others.waiting.items)) where
-        others_stand : StandsOn s (other side) (x ∷ past) others'
+        others_stand : StandsOn s (other side) (x ∷ past) (gone (other side)) others'
         others_stand = record {
           track = subst (λ (t : _). IsTrack s (on_side (other side) (whole_of (x ∷ past))) t) (sym kept)
               (subst (λ (l : List Came). IsTrack s l others.track) (sym other_past) h.there.track);
-          waiting = rest ∙ ap (without_first (may_pair s x)) h.there.waiting ∙ sym others_then;
+          last = subst (λ (t : _). AreLast (on_side (other side) (whole_of (x ∷ past))) t) (sym kept-last)
+              (subst (λ (l : List Came). AreLast l others.last) (sym other_past) h.there.last);
+          waiting = others_then ∙ ap (without_first (may_pair s x)) h.there.waiting
+              ∙ without_past s x (gone (other side)) (all_as (other side) others.waiting.items)
+              (next.gone (other side))
+              ∙ ap (λ (l : List Waiting). gone (other side) ++ l) (sym rest);
+          held = subst (AreHeld s (x ∷ past)) (sym rest)
+              (all_but (λ y. ComeUpTo (told_at s y) (x ∷ past)) (may_pair s x)
+              (all_as (other side) others.waiting.items)
+              (held_too s past x up (all_as (other side) others.waiting.items) next.there));
         }
 
         pub stand_paired : (y : Waiting) →
             partner s x (all_as (other side) others.waiting.items) ≡ Some y →
-            own'.waiting ≡ own.waiting → StandOn s side (x ∷ past) own' others'
+            own'.waiting ≡ own.waiting → StandOn s side (x ∷ past) gone own' others'
         stand_paired y found same =
             let some : list_any (may_pair s x) (waiting_of s (other side) past) ≡ true =
             any_some (may_pair s x) (waiting_of s (other side) past) y
-            (ap (partner s x) (sym h.there.waiting) ∙ found) in
+            (sym (ring_partner s (other side) past x _ others h.there (next.gone (other side))) ∙ found) in
             record {
               here = record {
                 track = subst (λ (l : List Came). IsTrack s l own'.track) (sym own_past) track;
-                waiting = ap (λ ws. all_as side ws.items) same ∙ h.here.waiting
-                    ∙ sym (own_then ∙ cond-true (list_any (may_pair s x) (waiting_of s (other side) past))
-                    (waiting_of s side past) _ some);
+                last = subst (λ (l : List Came). AreLast l own'.last) (sym own_past) last;
+                waiting = own_then ∙ cond-true (list_any (may_pair s x) (waiting_of s (other side) past))
+                    (waiting_of s side past) _ some
+                    ∙ h.here.waiting ∙ ap (λ ws. gone side ++ all_as side ws.items) (sym same);
+                held = subst (λ ws. AreHeld s (x ∷ past) (all_as side ws.items)) (sym same)
+                    (held_too s past x up (all_as side own.waiting.items) next.here);
               };
               there = others_stand;
             }
 
         pub stand_waiting : (q : Bool) → q ≡ is_empty (found_alone s (on_side side w) x) →
             partner s x (all_as (other side) others.waiting.items) ≡ None →
-            WaitsToo side own.waiting.items x q own'.waiting.items → StandOn s side (x ∷ past) own' others'
+            WaitsToo side own.waiting.items x q own'.waiting.items → StandOn s side (x ∷ past) gone own' others'
         stand_waiting q quiet none too =
             let no : list_any (may_pair s x) (waiting_of s (other side) past) ≡ false =
             any_none (may_pair s x) (waiting_of s (other side) past)
-            (ap (partner s x) (sym h.there.waiting) ∙ none) in
+            (sym (ring_partner s (other side) past x _ others h.there (next.gone (other side))) ∙ none) in
             let known : q ≡ is_empty (found_alone s (on_side x.side w) x) =
             quiet ∙ ap (λ (o : Side). is_empty (found_alone s (on_side o w) x)) (sym on) in
             record {
               here = record {
                 track = subst (λ (l : List Came). IsTrack s l own'.track) (sym own_past) track;
-                waiting = too
+                last = subst (λ (l : List Came). AreLast l own'.last) (sym own_past) last;
+                waiting = own_then ∙ cond-false (list_any (may_pair s x) (waiting_of s (other side) past))
+                    (waiting_of s side past) _ no
                     ∙ ap₂ (λ (a : List Waiting) (b : Bool). a ++ record { frame = x; is_quiet = b } ∷ [])
-                    h.here.waiting known
-                    ∙ sym (own_then ∙ cond-false (list_any (may_pair s x) (waiting_of s (other side) past))
-                    (waiting_of s side past) _ no);
+                    h.here.waiting (sym known)
+                    ∙ append_assoc (gone side) (all_as side own.waiting.items)
+                    (record { frame = x; is_quiet = q } ∷ [])
+                    ∙ ap (λ (l : List Waiting). gone side ++ l) (sym too);
+                held = subst (AreHeld s (x ∷ past)) (sym too)
+                    (all_and (λ y. ComeUpTo (told_at s y) (x ∷ past)) (all_as side own.waiting.items)
+                    (record { frame = x; is_quiet = q })
+                    (held_too s past x up (all_as side own.waiting.items) next.here) (omega arith, up));
               };
               there = others_stand;
             }
@@ -221,24 +260,35 @@ module _ (s : Source) (past : List Came) (x : Came) (damaged : is_whole x ≡ fa
   none_more : whole_of (x ∷ past) ≡ whole_of past
   none_more = cond-false (is_whole x) (x ∷ whole_of past) (whole_of past) damaged
 
-  stays : (side : Side) (one : OneSide) → StandsOn s side past one → StandsOn s side (x ∷ past) one
-  stays side one h = record {
+  pub same_waiting : (side : Side) → waiting_of s side (x ∷ past) ≡ waiting_of s side past
+  same_waiting side = ap (λ (l : List Came). if s.is_paired then waiting s side l else []) none_more
+
+  stays : (side : Side) (gone : List Waiting) (one : OneSide) → StandsOn s side past gone one →
+      ComeUpTo x.time past → AreOpen s x.time (all_as side one.waiting.items) →
+      StandsOn s side (x ∷ past) gone one
+  stays side gone one h up fits = record {
     track = subst (λ (l : List Came). IsTrack s (on_side side l) one.track) (sym none_more) h.track;
-    waiting = h.waiting
-        ∙ ap (λ (l : List Came). if s.is_paired then waiting s side l else []) (sym none_more);
+    last = subst (λ (l : List Came). AreLast (on_side side l) one.last) (sym none_more) h.last;
+    waiting = same_waiting side ∙ h.waiting;
+    held = held_too s past x up (all_as side one.waiting.items) fits;
   }
 
-  pub stand_still : (side : Side) (own others : OneSide) → StandOn s side past own others →
-      StandOn s side (x ∷ past) own others
-  stand_still side own others h =
-      record { here = stays side own h.here; there = stays (other side) others h.there }
+  pub stand_still : (side : Side) (gone : Side → List Waiting) (own others : OneSide) →
+      StandOn s side past gone own others → IsNext s side x gone own others → ComeUpTo x.time past →
+      StandOn s side (x ∷ past) gone own others
+  stand_still side gone own others h next up = record {
+    here = stays side _ own h.here up next.here;
+    there = stays (other side) _ others h.there up next.there;
+  }
 
 -- the sides the other way round
-pub turned : (s : Source) (xs : List Came) (a b : OneSide) → StandOn s A xs a b → StandOn s B xs b a
-turned s xs a b h = record { here = h.there; there = h.here }
+pub turned : (s : Source) (xs : List Came) (gone : Side → List Waiting) (a b : OneSide) →
+    StandOn s A xs gone a b → StandOn s B xs gone b a
+turned s xs gone a b h = record { here = h.there; there = h.here }
 
-pub turned_back : (s : Source) (xs : List Came) (a b : OneSide) → StandOn s B xs b a → StandOn s A xs a b
-turned_back s xs a b h = record { here = h.there; there = h.here }
+pub turned_back : (s : Source) (xs : List Came) (gone : Side → List Waiting) (a b : OneSide) →
+    StandOn s B xs gone b a → StandOn s A xs gone a b
+turned_back s xs gone a b h = record { here = h.there; there = h.here }
 
 -- ---- what a look says of the number
 
@@ -271,6 +321,18 @@ pub on_ok : {T E : Type 0} (r : Result T E) (P Q : Type 0) → (P → Q) → OnO
 on_ok (Ok t) P Q f h = f h
 on_ok (Err e) P Q f h = h
 
+pub on_err : {T E : Type 0} (r : Result T E) (P : Type 0) → P → OnErr r P
+on_err (Ok t) P h = _
+on_err (Err e) P h = h
+
+pub has_to_wait : (s : Source) (side : Side) (past : List Came) (x : Came) → x.side ≡ side → is_whole x ≡ true →
+    s.is_paired ≡ true → partner s x (waiting_of s (other side) past) ≡ None → HasToWait s past x
+has_to_wait s side past x on whole paired none = record {
+  whole = whole;
+  paired = paired;
+  none = ap (λ (o : Side). partner s x (waiting_of s (other o) past)) on ∙ none;
+}
+
 -- ---- whether frames came before the recordings
 
 first_by : (s : Source) (o : Option ℕ) → first_number s o ≡ (if is_some o then None else Some 0)
@@ -281,3 +343,7 @@ pub first_known : (s : Source) (o : Option ℕ) (b : Bool) → b ≡ is_some o �
     first_number s s.by.start ≡ (if b then None else Some 0)
 first_known s o b is same =
     ap (first_number s) same ∙ first_by s o ∙ ap (λ (c : Bool). if c then None else Some 0) (sym is)
+
+pub on_err_by : {T E : Type 0} (r : Result T E) (P Q : Type 0) → (P → Q) → OnErr r P → OnErr r Q
+on_err_by (Ok t) P Q f h = h
+on_err_by (Err e) P Q f h = f h

@@ -138,3 +138,7 @@ module _ (s : Source) (side : Side) (x : Came) (limits : SenderLimits) (time num
             ∙ ap (all_as side) (removed (pairs limits time number) ws at.1)
             ∙ without_mapped (waiting_as side) (pairs limits time number) (may_pair s x) alike ws,
       )
+
+pub number_kept : (w : Waits) (side : Side) → w.number ≡ number_in (waiting_as side w).frame
+unfolding number_in
+number_kept w side = w.numbered

@@ -16,3 +16,8 @@ pub mod OneSide
 pub mod Senders
 pub mod TwoNetworks
 pub mod Nearness
+pub mod Courses
+pub mod LastCame
+pub mod Tallies
+pub mod Unpaired
+pub mod Sides

@@ -21,4 +21,5 @@ pub record IsApart (s : Source) (apart : Apart) : Type 0 where
 pub record AreTerms (s : Source) (terms : SourceTerms) : Type 0 where
   pub limits : AreLimits s terms.limits
   pub apart : IsApart s terms.apart
+  pub start : s.by.start ≡ terms.start
   pub paired : s.is_paired ≡ terms.is_paired

@@ -7,6 +7,8 @@
 mod copies;
 mod finding;
 mod flaws;
+mod heard;
+mod last;
 mod late;
 pub mod laws;
 mod limits;
@@ -14,10 +16,17 @@ mod one_side;
 mod pace;
 mod partners;
 mod sender;
+mod sides;
+mod tally;
 mod track;
+mod unpaired;
 mod waits;
 mod ways;
 mod whole;
 
 pub use finding::{Flaw, SenderFinding};
-pub use ways::SystemWay;
+pub use heard::HeardFrame;
+pub use sender::JudgedSource;
+pub use tally::SourceCounts;
+pub use unpaired::UnpairedFrame;
+pub use ways::{Apart, SystemWay};

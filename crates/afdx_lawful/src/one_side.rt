@@ -1,63 +1,34 @@
 //! The frames of a source on one network, and one more of them.
 
-ghost use Rattle.std.specs.Prelude.{◌≡◌, ◌≤◌, List, ◌∷◌, IfOk, OnOk, Some};
+ghost use Rattle.std.specs.Prelude.{◌≡◌, ◌≤◌, List, ◌∷◌, length, option_map, Some};
+ghost use Rattle.std.specs.Prelude.{IfOk, IfSome, OnErr, OnOk};
 ghost use Rattle.afdx_frame.specs.declared.link.Side.{Side};
+ghost use Rattle.afdx_frame.specs.Times.{latest_listed};
+ghost use Rattle.afdx_lawful.specs.Accepted.{ComeUpTo};
+ghost use Rattle.afdx_lawful.specs.Alone.{number_in};
+ghost use Rattle.afdx_lawful.specs.Courses.{oldest};
 ghost use Rattle.afdx_lawful.specs.Flaws.{flaw_of};
 ghost use Rattle.afdx_lawful.specs.Judged.{found_of, found_with};
-ghost use Rattle.afdx_lawful.specs.OneSide.{IsCame, StandOn, StandsOn, WaitsToo, told_copy, told_heard};
-ghost use Rattle.afdx_lawful.specs.Rings.{waiting_as};
+ghost use Rattle.afdx_lawful.specs.LastCame.{AreLast};
+ghost use Rattle.afdx_lawful.specs.OneSide.{HasToWait, IsCame, IsNext, StandOn, StandsOn};
+ghost use Rattle.afdx_lawful.specs.OneSide.{WaitsToo, told_copy, told_heard};
+ghost use Rattle.afdx_lawful.specs.Partners.{Waiting};
+ghost use Rattle.afdx_lawful.specs.Rings.{all_as, waiting_as};
 ghost use Rattle.afdx_lawful.specs.Sources.{Came, Source as Terms};
 ghost use Rattle.afdx_lawful.specs.Ways.{AreTerms};
 
 use crate::copies::is_copy;
 use crate::finding::Flaw;
+use crate::heard::{Copied, HeardFrame};
+use crate::last::LastCame;
 use crate::late::too_late;
 use crate::partners::take_partner;
-use crate::track::{Alone, Track};
+use crate::track::Track;
 use crate::waits::Waits;
 use crate::ways::SourceTerms;
 use crate::whole::Whole;
 use afdx_conform::{CheckedBytes, Spare};
 use std::alloc::{AllocError, Global};
-
-/// What is found of a frame by its copy on the other network.
-#[derive(Clone, Copy, Debug, PartialEq, Eq)]
-pub(crate) enum Copied {
-    /// Nothing: it came in time, or is waited for.
-    Well,
-    /// It isn't the same.
-    Differs,
-    /// It came so many ns too late.
-    Late(u64),
-}
-
-/// What is found of a frame when it comes.
-#[derive(Clone, Copy, Debug)]
-pub(crate) struct HeardFrame {
-    pub alone: Alone,
-    pub copied: Copied,
-}
-
-impl HeardFrame {
-    ghost use Rattle.std.specs.Prelude.{ℕ, option_map, option_to_list};
-    ghost use Rattle.afdx_lawful.specs.declared.finding.SenderFinding.TheVariants.{Unlawful};
-
-    /// Nothing is found but what is wrong with the frame by itself.
-    pub fn damaged(flaw: Option<Flaw>) -> HeardFrame
-        ensures { (line : ℕ) → told_heard line result
-            ≡ option_to_list (option_map (Unlawful line) flaw) }
-    {
-        let alone = Alone {
-            flaw,
-            number: None,
-            soon: None,
-        };
-        HeardFrame {
-            alone,
-            copied: Copied::Well,
-        }
-    }
-}
 
 /// What is found of a frame by its partner.
 fn compare(terms: &SourceTerms, whole: Whole<'_>, partner: &Waits) -> Copied
@@ -80,7 +51,8 @@ fn compare(terms: &SourceTerms, whole: Whole<'_>, partner: &Waits) -> Copied
 #[derive(Debug, Drop)]
 pub(crate) struct OneSide {
     track: Track,
-    waiting: Vec<Waits>,
+    pub last: LastCame,
+    pub waiting: Vec<Waits>,
 }
 
 impl OneSide {
@@ -91,12 +63,32 @@ impl OneSide {
     pub fn new(alloc: Global, is_begun: bool) -> OneSide
         ensures { (s : Terms) (side : Side) →
             first_number s s.by.start ≡ (if is_begun then None else Some 0) →
-            StandsOn s side [] result }
+            StandsOn s side [] [] result }
     {
         OneSide {
             track: Track::new(is_begun),
+            last: LastCame::new(),
             waiting: Vec::new(alloc),
         }
+    }
+
+    /// When, in ns, the oldest frame came that waits.
+    pub fn oldest(&self) -> Option<u64>
+        ensures time { (side : Side) → result ≡ option_map (λ y. y.frame.time)
+            (oldest (all_as side self.now.waiting.items)) }
+        ensures listed { IfSome result (λ time. time ≤ latest_listed) }
+    {
+        match self.waiting.first() {
+            Some(waits) => Some(waits.time),
+            None => None,
+        }
+    }
+
+    /// How many frames wait.
+    pub fn held(&self) -> usize
+        ensures { result ≡ length self.now.waiting.items }
+    {
+        self.waiting.len()
     }
 
     /// A frame waits for its copy. The error says that memory was refused.
@@ -107,6 +99,8 @@ impl OneSide {
         is_quiet: bool,
     ) -> Result<(), AllocError>
         ensures track { self.new.track ≡ self.old.track }
+        ensures last { self.new.last ≡ self.old.last }
+        ensures refused { OnErr result (self.new.waiting.items ≡ self.old.waiting.items) }
         ensures waits { (side : Side) (x : Came) → IsCame side whole.entry x →
             OnOk result (WaitsToo side self.old.waiting.items x is_quiet self.new.waiting.items) }
     {
@@ -120,10 +114,23 @@ impl OneSide {
         })?;
         Ok(())
     }
+
+    /// What is known behind a frame of this time, in ns, and number.
+    fn pass(&mut self, track: Track, time: u64, number: u8)
+        requires { time ≤ latest_listed }
+        ensures track { self.new.track ≡ track }
+        ensures last { (xs : List Came) (x : Came) → x.time ≡ time → number_in x ≡ number →
+            AreLast xs self.old.last → AreLast (x ∷ xs) self.new.last }
+        ensures waiting { self.new.waiting ≡ self.old.waiting }
+    {
+        self.track = track;
+        self.last.come(time, number);
+    }
 }
 
 /// One more frame comes on a side, which isn't damaged: what is found of it, of its own side first.
-/// The error says that memory was refused.
+/// The error says that memory was refused; then nothing has changed, and the frame is one that has
+/// to wait.
 pub(crate) fn hear(
     own: &mut OneSide,
     other: &mut OneSide,
@@ -132,19 +139,26 @@ pub(crate) fn hear(
     flaw: Option<Flaw>,
     spare: &mut Spare,
 ) -> Result<HeardFrame, AllocError>
-    ensures found { (s : Terms) (side : Side) (past : List Came) (x : Came) →
-        AreTerms s terms.now → IsCame side whole.entry x → flaw ≡ flaw_of s x →
-        StandOn s side past own.old other.old →
+    ensures found { (s : Terms) (side : Side) (past : List Came) (gone : Side → List Waiting)
+        (x : Came) → AreTerms s terms.now → IsCame side whole.entry x → flaw ≡ flaw_of s x →
+        IsNext s side x gone own.old other.old → StandOn s side past gone own.old other.old →
         IfOk result (λ heard. told_heard whole.entry.line heard ≡ found_of s past x) }
-    ensures stand { (s : Terms) (side : Side) (past : List Came) (x : Came) →
-        AreTerms s terms.now → IsCame side whole.entry x → flaw ≡ flaw_of s x →
-        StandOn s side past own.old other.old →
-        OnOk result (StandOn s side (x ∷ past) own.new other.new) }
+    ensures stand { (s : Terms) (side : Side) (past : List Came) (gone : Side → List Waiting)
+        (x : Came) → AreTerms s terms.now → IsCame side whole.entry x → flaw ≡ flaw_of s x →
+        IsNext s side x gone own.old other.old → ComeUpTo x.time past →
+        StandOn s side past gone own.old other.old →
+        OnOk result (StandOn s side (x ∷ past) gone own.new other.new) }
+    ensures refused { (s : Terms) (side : Side) (past : List Came) (gone : Side → List Waiting) →
+        StandOn s side past gone own.old other.old →
+        OnErr result (StandOn s side past gone own.new other.new) }
+    ensures waits { (s : Terms) (side : Side) (past : List Came) (gone : Side → List Waiting)
+        (x : Came) → AreTerms s terms.now → IsCame side whole.entry x → IsNext s side x gone own.old other.old →
+        StandOn s side past gone own.old other.old → OnErr result (HasToWait s past x) }
 {
-    let alone = own
-        .track
-        .come(&terms.limits, whole.time, flaw, whole.number);
+    let mut track = own.track;
+    let alone = track.come(&terms.limits, whole.time, flaw, whole.number);
     if !terms.is_paired {
+        own.pass(track, whole.time, whole.number);
         return Ok(HeardFrame {
             alone,
             copied: Copied::Well,
@@ -153,11 +167,13 @@ pub(crate) fn hear(
     let partner = take_partner(&mut other.waiting, &terms.limits, whole.time, whole.number);
     match partner {
         Some(partner) => {
+            own.pass(track, whole.time, whole.number);
             let copied = compare(terms, whole, &partner);
             Ok(HeardFrame { alone, copied })
         }
         None => {
             own.wait(spare, whole, alone.is_quiet())?;
+            own.pass(track, whole.time, whole.number);
             Ok(HeardFrame {
                 alone,
                 copied: Copied::Well,

@@ -1,6 +1,6 @@
 //! Which frame that waits is the copy of another one.
 
-ghost use Rattle.std.specs.Prelude.{◌≡◌, ◌<◌, length, option_map, position, IfSome};
+ghost use Rattle.std.specs.Prelude.{◌≡◌, ◌<◌, length, option_map, position, IfNone, IfSome};
 ghost use Rattle.afdx_frame.specs.declared.link.Side.{Side};
 ghost use Rattle.afdx_lawful.specs.Alone.{number_in};
 ghost use Rattle.afdx_lawful.specs.Limits.{AreLimits};
@@ -39,6 +39,7 @@ pub(crate) fn take_partner(
     ensures partner { (s : Terms) (side : Side) (x : Came) → AreLimits s limits.now →
         x.time ≡ time → number_in x ≡ number →
         option_map (waiting_as side) result ≡ partner s x (all_as side waiting.old.items) }
+    ensures none { IfNone result (waiting.new.items ≡ waiting.old.items) }
     ensures rest { (s : Terms) (side : Side) (x : Came) → AreLimits s limits.now →
         x.time ≡ time → number_in x ≡ number → all_as side waiting.new.items
         ≡ without_first (may_pair s x) (all_as side waiting.old.items) }

@@ -1,6 +1,7 @@
 //! By how much later the copy of a source's frame may be sent.
 
-ghost use Rattle.std.specs.Prelude.{◌≡◌, ◌≤◌};
+ghost use Rattle.std.specs.Prelude.{◌≡◌, ◌≤◌, ◌*◌, ◌/◌};
+ghost use Rattle.afdx_conform.specs.Levels.{parts};
 ghost use Rattle.afdx_lawful.specs.Ranges.{IsWayInRange, given_ns, most_apart};
 
 use crate::limits::{GREATEST_SKEW, SenderLimits};
@@ -86,6 +87,7 @@ impl Apart {
         ensures apart { (s : Terms) (x : Came) → AreLimits s limits.now → IsApart s self.now →
             length x.bytes ≡ bytes → result ≡ apart_of s x }
         ensures near { result ≤ 200000000 }
+        ensures within { result ≤ parts * most_apart / limits.now.slow }
     {
         let ns = match self.given {
             Some(ns) => ns,
@@ -96,10 +98,12 @@ impl Apart {
 }
 
 /// What a source's frames are held against: what may be off, by how much later copies may be sent,
-/// and whether both networks are seen.
+/// from when on, in ns, frames are known if some may have been sent before, and whether both
+/// networks are seen.
 #[derive(Debug, Drop)]
 pub(crate) struct SourceTerms {
     pub limits: SenderLimits,
     pub apart: Apart,
+    pub start: Option<u64>,
     pub is_paired: bool,
 }

@@ -1,4 +1,5 @@
-use Rattle.std.proofs.Common.{ap, sym, ◌∙◌}
+use Rattle.std.proofs.Common.{[], ap, subst, sym, ◌∙◌}
+use Rattle.afdx_lawful.specs.Courses.{AreHeld}
 use Rattle.afdx_lawful.specs.Rings.{all_as}
 use Rattle.afdx_lawful.proofs.OneSideLemmas.{none_at_first}
 use Rattle.afdx_lawful.proofs.one_side.OneSide.new.Goals as goal
@@ -6,5 +7,7 @@ use Rattle.afdx_lawful.proofs.one_side.OneSide.new.Goals as goal
 pub returns : goal.returns
 returns c s side first = record {
   track = c.new.ensures s first;
-  waiting = ap (λ ws. all_as side ws) c.new-2.ensures.items ∙ sym (none_at_first s side);
+  last = c.new-2.ensures;
+  waiting = none_at_first s side ∙ ap (λ ws. all_as side ws) (sym c.new-3.ensures.items);
+  held = subst (λ ws. AreHeld s [] (all_as side ws)) (sym c.new-3.ensures.items) _;
 }

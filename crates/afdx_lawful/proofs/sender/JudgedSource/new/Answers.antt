@@ -1,5 +1,5 @@
 use Rattle.std.proofs.Common.{ap}
-use Rattle.afdx_frame.specs.declared.link.Side.TheVariants.{A, B}
+use Rattle.afdx_lawful.proofs.CourseLemmas.{first_course}
 use Rattle.afdx_lawful.proofs.OneSideLemmas.{first_known}
 use Rattle.afdx_lawful.proofs.sender.JudgedSource.new.Goals as goal
 
@@ -13,7 +13,10 @@ returns c s of =
       terms = record {
         limits = c.new.ensures s of.of_rule of.leeway;
         apart = of.copies;
+        start = ap (λ l. l.start) of.leeway;
         paired = of.sides;
       };
-      sides = record { here = c.new-2.ensures s A first; there = c.new-3.ensures s B first };
+      sides = c.new-2.ensures s first;
+      tally = c.new-3.ensures s;
+      course = first_course s;
     }
