@@ -1,3 +1,4 @@
+pub mod LinkFrameLemmas
 mod PassLemmas
 mod FoundLemmas
 mod NewestLemmas

@@ -1,3 +1,4 @@
+pub mod LinkFrames
 pub mod Handovers
 pub mod Receptions
 pub mod ReadPorts

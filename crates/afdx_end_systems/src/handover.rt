@@ -1,6 +1,8 @@
 //! What a switch hands over to an end system.
 
-ghost use Rattle.afdx_frame.specs.Parts.{bytes_of, IsLinkFrame};
+ghost use Rattle.std.specs.Prelude.{◌≡◌, true};
+ghost use Rattle.afdx_frame.specs.Parts.{bytes_of};
+ghost use Rattle.afdx_end_systems.specs.LinkFrames.{is_link_frame};
 
 use afdx_frame::{Checked, Side};
 
@@ -20,5 +22,5 @@ pub struct Handover<'a> {
     pub row: u16,
     /// The frame, one of a link: a switch lets no other pass.
     pub frame: Checked<'a>,
-    pub ghost framed: { IsLinkFrame (bytes_of frame) },
+    pub ghost framed: { is_link_frame (bytes_of frame) ≡ true },
 }

@@ -1,9 +1,10 @@
 use Rattle.afdx_end_systems.specs.Handovers.{handed_over, arrival_of}
 use Rattle.afdx_end_systems.proofs.FoundLemmas.{found, unfound}
+use Rattle.afdx_end_systems.proofs.LinkFrameLemmas.{link-frame-is}
 use Rattle.afdx_end_systems.proofs.end_system.EndSystem.receive.Goals as goal
 
 pub receive_known-requires : goal.receive_known-requires
-receive_known-requires c = c.args.handover.framed
+receive_known-requires c = link-frame-is c.args.handover.frame c.args.handover.framed
 
 pub returns-in-Dropped-clause-stands : goal.returns-in-Dropped-clause-stands
 returns-in-Dropped-clause-stands c = λ rows system past is.

@@ -4,11 +4,15 @@ use Rattle.afdx_frame.specs.Parts.{bytes_of}
 use Rattle.afdx_input_lines.specs.Calls.{AppendsFront}
 use Rattle.afdx_end_systems.specs.Receptions.{is_delivered}
 use Rattle.afdx_end_systems.specs.StandsFor as systems
+use Rattle.afdx_end_systems.proofs.LinkFrameLemmas.{is-link-frame}
 use Rattle.afdx_replay.specs.replaying.Text.{departure_line, frames_left, handed_over, heard, has_message, place_text}
 use Rattle.afdx_replay.proofs.ReplayLemmas.{line-is, old-is, handed-is, heard-whole, heard-front, tells-old, tells-left}
 use Rattle.afdx_replay.proofs.ReplayLemmas.{left-lines}
 use Rattle.afdx_text.proofs.OutputLemmas.{front-longer, on-err}
 use Rattle.afdx_replay.proofs.replaying.telling.tell_departure.Goals as goal
+
+pub invariant_of-handover : goal.invariant_of-handover
+invariant_of-handover g c = record { framed = is-link-frame c.frame.result c.frame.ensures.framed }
 
 pub returns-in_err-put_departure-clause-begun : goal.returns-in_err-put_departure-clause-begun
 returns-in_err-put_departure-clause-begun g c t before d stands is =
