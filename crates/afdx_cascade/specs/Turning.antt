@@ -107,7 +107,8 @@ TellsTurn c k (Came b) d = ⊥
 -- the network of a switch gave its first turn by then, and networks and ring stand for it too: no
 -- cable carries its frame, or it joined the ring
 pub record TurnsAt (c : Plan) (networks : List Network) (transit : List InTransit) (time : ℕ)
-    (ring : List OnCable) (so_far : List SwitchEvent) (k until : ℕ) (value : Happened) : Type 0 where
+    (ring : List OnCable) (so_far : List SwitchEvent) (k until : ℕ) (value : Happened) :
+    Type 0 where
   pub departure : Departure
   pub in_time : IsBy until (due_at departure.turn)
   pub tells : TellsTurn c k value departure
