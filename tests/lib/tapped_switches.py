@@ -1,12 +1,12 @@
 #!/usr/bin/python3
 """Recordings of the taps of several switches, as a replay says what came to each and what left it.
 
-    AFDX=PROGRAM tests/lib/tapped_switches.py CONFIG LIST FOLDER [N]
+    AFDX=PROGRAM tests/lib/tapped_switches.py CONFIG LIST FOLDER
 
-LIST has R lines. FOLDER gets a pcapng for each switch (NAME.pcapng), in which the interface `A3in`
-is at port 3 of side A, all.pcapng with the taps of all switches, whose interfaces have the names of
-their switches before them, and the tables of taps of both, taps.csv and all.csv. All frames come N
-times (1), each time 200 ms after the last one. Check sequences are left off, as cards do.
+LIST has R lines. FOLDER gets recordings of each switch on each side (NAME.A.pcapng), in which the
+interface `A3in` is at port 3 of side A, and all.pcapng with the taps of all switches, whose
+interfaces have the names of their switches before them; and the tables of taps of both, taps.csv
+and all.csv. Check sequences are left off, as cards do.
 """
 from __future__ import annotations
 
@@ -100,7 +100,7 @@ def interface(name: str) -> bytes:
 
 
 def write_packets(file: BinaryIO, seen: Sequence[Seen], places: dict[Tap, int], times: int) -> None:
-    """Writes frames in the order of their times, so many times."""
+    """Writes frames in the order of their times, so many times, with a pause before each."""
     words, stamps = array.array("I"), []
     for time, tap, content in seen:
         stamps.append((len(words) + 3, BEGIN + time))
@@ -113,8 +113,8 @@ def write_packets(file: BinaryIO, seen: Sequence[Seen], places: dict[Tap, int], 
         words.tofile(file)
 
 
-def write_recording(path: str, seen: list[Seen], names: dict[Tap, str], times: int) -> None:
-    """Writes what is seen at these taps."""
+def write_recording(path: str, seen: list[Seen], names: dict[Tap, str], times: int = 1) -> None:
+    """Writes what is seen at these taps, so many times."""
     places = {tap: place for place, tap in enumerate(names)}
     with open(path, "wb") as file:
         file.write(SECTION + b"".join(map(interface, names.values())))
@@ -129,20 +129,37 @@ def write_table(path: str, names: dict[Tap, str]) -> None:
             file.write(f"{name},{side},{switch},{port},{'out' if is_left else 'in'}\n")
 
 
-def write_taps(config: str, listing: str, folder: str, times: int = 1) -> None:
-    """Writes all recordings and tables."""
-    seen = sorted(seen_in(config, listing), key=lambda each: (each.time, each.tap.is_left))
-    taps = [Tap(name, side, port, is_left) for name, ports in switches_of(config).items()
+def sorted_in(config: str, listing: str) -> list[Seen]:
+    """What is seen, by time, what came first."""
+    return sorted(seen_in(config, listing), key=lambda each: (each.time, each.tap.is_left))
+
+
+def all_taps(config: str) -> list[Tap]:
+    """The taps of all switches."""
+    return [Tap(name, side, port, is_left) for name, ports in switches_of(config).items()
             for side in SIDES for port in ports for is_left in (False, True)]  # fmt: skip
-    for name in switches_of(config):
-        path = os.path.join(folder, f"{name}.pcapng")
-        own = {tap: tap.name for tap in taps if tap.switch == name}
-        write_recording(path, seen, own, times)
-    write_table(os.path.join(folder, "taps.csv"), {tap: tap.name for tap in taps})
-    called = {tap: f"{tap.switch}-{tap.name}" for tap in taps}
-    write_table(os.path.join(folder, "all.csv"), called)
-    write_recording(os.path.join(folder, "all.pcapng"), seen, called, times)
+
+
+def write_taps(config: str, listing: str, folder: str, times: int = 1) -> list[tuple[str, str]]:
+    """Writes the recordings of each switch and side, and their table; the switches with them."""
+    seen, found = sorted_in(config, listing), []
+    names = {tap: tap.name for tap in all_taps(config)}
+    write_table(os.path.join(folder, "taps.csv"), names)
+    for place in dict.fromkeys((tap.switch, tap.side) for tap in names):
+        path = f"{'.'.join(place)}.pcapng"
+        own = {tap: name for tap, name in names.items() if (tap.switch, tap.side) == place}
+        write_recording(os.path.join(folder, path), seen, own, times)
+        found.append((place[0], path))
+    return found
+
+
+def write_whole(config: str, listing: str, folder: str) -> None:
+    """Writes the recording of all switches, and its table."""
+    names = {tap: f"{tap.switch}-{tap.name}" for tap in all_taps(config)}
+    write_table(os.path.join(folder, "all.csv"), names)
+    write_recording(os.path.join(folder, "all.pcapng"), sorted_in(config, listing), names)
 
 
 if __name__ == "__main__":
-    write_taps(*sys.argv[1:4], *map(int, sys.argv[4:]))
+    write_taps(sys.argv[1], sys.argv[2], sys.argv[3])
+    write_whole(sys.argv[1], sys.argv[2], sys.argv[3])
