@@ -1,5 +1,5 @@
 #!/usr/bin/env python3
-"""Measures `afdx-campaign --conform` on recordings of eight switches a side, on one core and on four.
+"""Measures `afdx-campaign --conform` on recordings of eight switches a side, on one core and more.
 
     bench/campaign.py [PROGRAM] [--times N] [--cores C] [--folder FOLDER]
 

@@ -118,10 +118,11 @@ list_tests() {
         wants_text "$(column_of "$day/lists/campaign.csv" 9)" '0 5 3' statuses
         wants_text "$(tail -n 1 "$work/out" | awk '{ print $4, $5 }')" '1 1' 'the sums'
     )"
-    judge_day lists "$config" "$day/came.list,$day/early.list" --slack 1 --exercised
+    judge_day lists "$config" "$day/came.list,$day/early.list" --slack 1 --exercised --from 0
     tell 'options of conform are handed on' "$(
         is_status 3
         wants_text "$(column_of "$day/lists/campaign.csv" 1)" undecided verdict
+        says err 'with --from a switch may have let frames through'
     )"
     echo 'F 0 C' >>"$day/left.list"
     judge_day lists "$config" "$day/came.list,$day/left.list"

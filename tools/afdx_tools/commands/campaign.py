@@ -53,6 +53,10 @@ from afdx_tools.report.criteria import CRITERIA, add_words, write_junit
 from afdx_tools.tables import as_text, csv_text
 
 TOOL = "afdx-campaign"
+HIDDEN = (
+    "with --from a switch may have let frames through that it had to drop for what came before, "
+    "or dropped some for which it had room: that isn't found"
+)
 
 
 def say(line: str) -> None:
@@ -237,6 +241,8 @@ def report(args: argparse.Namespace, kind: Kind, outcomes: Sequence[Outcome]) ->
     print(as_text([*(outcome.row for outcome in outcomes), kind.sum_row(outcomes)]), end="")
     faults = [outcome.fault.removeprefix(SPEAKER) for outcome in outcomes]
     explain_all(faults, ["check", as_file(args.config)])
+    if args.begin is not None:
+        say(HIDDEN)
     missing = sum(not outcome.is_result for outcome in outcomes)
     if missing:
         say(f"{missing} of {len(outcomes)} runs have no result (--resume repeats them)")
