@@ -158,6 +158,7 @@ refused_campaigns_tests() {
         refused '--switch mid: it has to be one of' --conform --switch mid "$aircraft" x
         refused '--switch nose: there is one switch a side' --conform --switch nose \
             examples/base.toml x
+        refused '--switch and NAME= say the same' --conform --switch nose "$aircraft" nose=x
         refused 'one recording of what came' --conform --taps "$day/taps.csv" "$aircraft" tail=x,y
     )"
 }

@@ -57,6 +57,8 @@ def judgements(
     the word or the option names, else all that the table of taps has."""
     if not config.names or switch is not None:
         want_switch(config, switch)
+        if config.names and any(named_switch(word, config.names)[0] for word in words):
+            raise Refused("--switch and NAME= say the same: give one of them")
         return [Run(word, files_of(word), switch or "") for word in words]
     tapped = [] if taps is None else tapped_switches(config, taps)
     runs = []
