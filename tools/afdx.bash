@@ -206,9 +206,12 @@ _afdx_takes() { # COMMAND : its options, and those that take a value
             ;;
         'afdx-campaign')
             options=(--help --version --out --no-admission --pages --jobs --resume --sshlogin \
-                --transfer --interface --taps --fcs --origin --reorder --stamps --fail-on --junit)
+                --transfer --interface --taps --fcs --origin --reorder --stamps --fail-on --junit \
+                --conform --slack --between --drift --inner --asked --until --leave-out --switch \
+                --left --lossy --exercised --from)
             valued=(--out -j --jobs -S --sshlogin --interface --taps --fcs --origin --reorder \
-                --stamps --fail-on --junit)
+                --stamps --fail-on --junit --slack --between --drift --inner --asked --until \
+                --leave-out --switch --left --from)
             ;;
         'afdx-capture list')
             options=(--help --config --interface --taps --fcs --origin --reorder --stamps --out \
@@ -274,11 +277,11 @@ _afdx_value() { # COMMAND OPTION, in one word
         'afdx-campaign --out') _afdx_folders ;;
         'afdx-campaign --taps') _afdx_files csv ;;
         'afdx-campaign --fcs') _afdx_offer yes no ;;
-        'afdx-campaign --stamps') _afdx_offer end start ;;
+        'afdx-campaign --stamps') _afdx_offer end start start-end end-start ;;
         'afdx-campaign --fail-on')
             _afdx_list silent contradicted clock twice late full-buffer too-old dropped unequal \
                 missing refused skew jitter first-number recorder-lost left-out unused claimed \
-                lost
+                open uncertain unseen idle lost
             ;;
         'afdx-campaign --junit') _afdx_files xml ;;
         'afdx-capture list --config') _afdx_files toml ;;

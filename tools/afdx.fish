@@ -235,13 +235,26 @@ complete -c afdx-campaign -x -l fcs -a 'yes no' \
     -d 'do recorded frames end with their check sequence'
 complete -c afdx-campaign -x -l origin -d 'the moment that is time 0, in ns since 1970'
 complete -c afdx-campaign -x -l reorder -d 'how many arrivals in front of a frame may be later'
-complete -c afdx-campaign -x -l stamps -a 'end start' \
+complete -c afdx-campaign -x -l stamps -a 'end start start-end end-start' \
     -d 'whether stamps are those of a frame\'s last bit or of its first'
 complete -c afdx-campaign -x -l fail-on \
-    -a '(__afdx_list silent contradicted clock twice late full-buffer too-old dropped unequal missing refused skew jitter first-number recorder-lost left-out unused claimed lost)' \
+    -a '(__afdx_list silent contradicted clock twice late full-buffer too-old dropped unequal missing refused skew jitter first-number recorder-lost left-out unused claimed open uncertain unseen idle lost)' \
     -d 'status 6 where one of these isn\'t 0, with commas'
 complete -c afdx-campaign -x -l junit -a '(__afdx_files xml)' \
     -d 'write the run and each criterion as a JUnit test case'
+complete -c afdx-campaign -l conform -d 'report on a recorded switch'
+complete -c afdx-campaign -x -l slack -d 'by how many ns a stamp may be off, with --conform'
+complete -c afdx-campaign -x -l between -d 'by how many ns more one of LEFT is off'
+complete -c afdx-campaign -x -l drift -d 'by how many millionths clocks may differ'
+complete -c afdx-campaign -x -l inner -d 'what a frame may take beyond its latency'
+complete -c afdx-campaign -x -l asked -d 'how much later the account may be asked'
+complete -c afdx-campaign -x -l until -d 'the end of the recordings, with --conform'
+complete -c afdx-campaign -x -l leave-out -d 'a link that isn\'t judged, or other, with --conform'
+complete -c afdx-campaign -x -l switch -d 'which of several switches is judged'
+complete -c afdx-campaign -x -l left -d 'where the frames of interface K left'
+complete -c afdx-campaign -l lossy -d 'also where the recorder lost frames'
+complete -c afdx-campaign -l exercised -d 'no verdict where a stream that is judged is idle'
+complete -c afdx-campaign -x -l from -d 'what came before this is passed over'
 complete -c afdx-campaign -n '__afdx_at - 0 0' -a '(__afdx_files toml)'
 complete -c afdx-campaign -n '__afdx_at - 1 1000000' -a '(__afdx_files list pcap pcapng)'
 

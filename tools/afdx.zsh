@@ -159,9 +159,22 @@ _afdx_takes() { # COMMAND
             '--fcs=[do recorded frames end with their check sequence]: :(yes no)' \
             '--origin=[the moment that is time 0, in ns since 1970]:ns:' \
             '--reorder=[how many arrivals in front of a frame may be later]:n:' \
-            '--stamps=[whether stamps are those of a frame'\''s last bit or of its first]: :(end start)' \
-            '--fail-on=[status 6 where one of these isn'\''t 0, with commas]: :_values -s , word silent contradicted clock twice late full-buffer too-old dropped unequal missing refused skew jitter first-number recorder-lost left-out unused claimed lost' \
+            '--stamps=[whether stamps are those of a frame'\''s last bit or of its first]: :(end start start-end end-start)' \
+            '--fail-on=[status 6 where one of these isn'\''t 0, with commas]: :_values -s , word silent contradicted clock twice late full-buffer too-old dropped unequal missing refused skew jitter first-number recorder-lost left-out unused claimed open uncertain unseen idle lost' \
             '--junit=[write the run and each criterion as a JUnit test case]:file:_files -g "*.xml(-.)"' \
+            '--conform[report on a recorded switch]' \
+            '--slack=[by how many ns a stamp may be off, with --conform]:ns:' \
+            '--between=[by how many ns more one of LEFT is off]:ns:' \
+            '--drift=[by how many millionths clocks may differ]:ppm:' \
+            '--inner=[what a frame may take beyond its latency]:ns:' \
+            '--asked=[how much later the account may be asked]:ns:' \
+            '--until=[the end of the recordings, with --conform]:ns:' \
+            '*--leave-out=[a link that isn'\''t judged, or other, with --conform]:vl:' \
+            '--switch=[which of several switches is judged]:name:' \
+            '*--left=[where the frames of interface K left]:k=place:' \
+            '--lossy[also where the recorder lost frames]' \
+            '--exercised[no verdict where a stream that is judged is idle]' \
+            '--from=[what came before this is passed over]:ns:' \
             ':config:_files -g "*.toml(-.)"' \
             '*:list:_files -g "*.(list|pcap|pcapng)(-.)"'
         ;;

@@ -107,6 +107,7 @@ parts=(
     hostile_files
     around
     campaigns
+    judged_campaigns
     recorded_reports
     absence
     evidence

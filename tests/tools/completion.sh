@@ -71,7 +71,8 @@ offer_tests() { # SHELL
         offers "$1" 'afdx-report --stamps ' end end-start start start-end
         offers "$1" 'afdx conform --stamps end' end end-start
         offers "$1" 'afdx conform --l' --leave-out --left --line-buffered --lossy
-        offers "$1" 'afdx-campaign --stamps e' end
+        offers "$1" 'afdx-campaign --stamps e' end end-start
+        offers "$1" 'afdx-campaign --conf' --conform
         offers "$1" "afdx send $files/one.toml " adc fcc
         offers "$1" 'afdx-icd --profile ' 1 2
         offers "$1" 'afdx-fill --keep ' jitter buffer latency skew
@@ -93,6 +94,7 @@ offer_tests() { # SHELL
         offers "$1" 'afdx solve --keep jitter,skew,la' latency
         offers "$1" 'afdx-fill --keep=skew,j' jitter
         offers "$1" 'afdx-report --fail-on silent,l' late left-out lost
+        offers "$1" 'afdx-campaign --fail-on idle,un' unequal unused uncertain unseen
     )"
     tell "$1 completes files, each of the kind that is wanted there" "$(
         offers "$1" "afdx check $files/" one.toml

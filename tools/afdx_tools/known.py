@@ -4,7 +4,7 @@ from __future__ import annotations
 import functools
 import re
 import subprocess
-from typing import NamedTuple
+from typing import NamedTuple, Sequence
 
 from afdx_tools.columns import COLUMNS
 from afdx_tools.faults import Failed
@@ -59,6 +59,11 @@ def kinds() -> dict[str, Kind]:
         raise Failed(f"{program()} lists no lines of conform (explain --list)", 4)
     columns = COLUMNS["streams"].split()
     return {word: found[word] for word in sorted(found, key=lambda each: place_in(columns, each))}
+
+
+def counts_of(words: Sequence[str]) -> dict[str, int]:
+    """Words that have their counts behind them, as in a line `skipped WORD N WORD N ..`."""
+    return dict(zip(words[::2], map(int, words[1::2])))
 
 
 def place_in(columns: list[str], word: str) -> int:

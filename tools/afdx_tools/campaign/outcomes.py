@@ -26,14 +26,15 @@ SUMS = (
 )
 SPEAKER = "afdx-report: "  # what the last line of a run begins with that gave no report
 NO_RESULT = 4
-ORDER = (0, 6, 3, 1, 2, NO_RESULT)  # the statuses of runs, the worst last
+ORDER = (0, 6, 5, 3, 1, 2, NO_RESULT)  # the statuses of runs, the worst last
+OF_REPORTS = (0, 6, 3, 1, 2)  # those of a run that gave a report
 REFUSED = (1, 2, 3)  # those of a run whose words or files can't be used: a result without a report
 
 
 class Outcome(NamedTuple):
     """What came of a run: its row, its machine, the sums and findings of its report if it gave one,
     its fault. A run without a result is repeated. It has answered if the tool began on its machine
-    and said how it ended."""
+    and said how it ended. Remarks are what its standard error has besides, where it ended well."""
 
     row: Row
     machine: str
@@ -42,6 +43,7 @@ class Outcome(NamedTuple):
     fault: str
     is_result: bool
     has_answered: bool
+    remarks: str = ""
 
 
 def text_of(path: str) -> str:
@@ -101,19 +103,19 @@ def run_row(name: str, report: Row | None, fault: str, status: int | None, unmet
 def is_result(report: Row | None, status: int, has_answered: bool) -> bool:
     """Did a run come to an end that says something of its list? A device that failed, a signal and
     a machine that broke off don't."""
-    return status in (ORDER[:-1] if report else REFUSED) and has_answered
+    return status in (OF_REPORTS if report else REFUSED) and has_answered
 
 
 def outcome_of(
-    out: str, attempt: Attempt, name: str, criteria: Sequence[str], wants_page: bool
+    out: str, attempt: Attempt, name: str, criteria: Sequence[str], has_page: bool
 ) -> Outcome:
-    """What came of the run of a list, on the machine of its row in the job log."""
+    """What came of the run of a list, on the machine of its row in the job log; whether its page is
+    there, if it has to be."""
     number, machine, status = attempt
     report, fault = report_of(out, number)
     has_answered = report is not None or fault.startswith(SPEAKER)
     is_good = is_result(report, status, has_answered)
-    page = os.path.join(out, "pages", str(number), "report.html")
-    if is_good and report and wants_page and not os.path.exists(page):
+    if is_good and report and not has_page:
         is_good, fault = False, "its page didn't come back"
     totals, findings = (report["totals"], report["findings"]) if report else (None, [])
     row = run_row(name, report, fault, status, judged(totals, criteria))

@@ -1,15 +1,19 @@
-"""Replays many frame lists or recordings with `afdx`; ends with one table.
+"""Replays or judges many lists or recordings with `afdx`; ends with one table.
 
     afdx-campaign examples/network.toml monday/*.list --out monday
     afdx-campaign net.toml 1/A.pcapng,1/B.pcapng 2/A.pcapng,2/B.pcapng
+    afdx-campaign --conform --taps taps.csv net.toml fwd=1.pcapng aft=2.pcapng
 
 Each run is one of `afdx-report`, over a list, a recording, or the recordings of
-both networks with a comma between. Which runs where and when is left to GNU
-parallel (apt-get install parallel). The folder of --out gets campaign.csv, the
-report of each run as JSON (runs/1/stdout and so on, in the order of the lists),
+both networks with a comma between. With --conform it is one of `afdx conform`,
+over what came to a switch and left it: a recording, or CAME,LEFT. Of several
+switches each is judged that the word names, or that the table of taps has.
+Which runs where and when is left to GNU parallel (apt-get install parallel).
+The folder of --out gets campaign.csv, what each run wrote (runs/1/stdout and
+so on, in the order of the lists: the report as JSON, or the lines of conform),
 and what --resume needs. A run that didn't begin, or whose machine died, goes to
 another machine. The exit status is that of the worst run: a run without a
-result (4) is worst, then come 2, 1, 3 and 6.
+result (4) is worst, then come 2, 1, 3, 5 and 6.
 """
 from __future__ import annotations
 
@@ -21,10 +25,21 @@ import sys
 from collections import defaultdict
 from typing import Iterator, NoReturn, Sequence
 
-from afdx_tools.campaign.machines import MOST_FAILED, PATIENCE, THIS, Machines
-from afdx_tools.campaign.outcomes import SPEAKER, Outcome, not_run, outcome_of, sum_row, worst
+from afdx_tools.campaign.judging import Judgements
+from afdx_tools.campaign.kinds import FIRST, Kind
+from afdx_tools.campaign.machines import MOST_FAILED, PATIENCE, Machines
+from afdx_tools.campaign.outcomes import SPEAKER, Outcome, worst
+from afdx_tools.campaign.replaying import Replays
 from afdx_tools.campaign.rounds import Attempt, JobLog, next_round, play
-from afdx_tools.command_line import parser_of
+from afdx_tools.campaign.runs import judgements, replays
+from afdx_tools.command_line import parser_of, whole as whole_number
+from afdx_tools.config import read_config
+from afdx_tools.conformance.options import (
+    BY_ROLE,
+    LATEST,
+    add_conform_words,
+    refuse_conform_options,
+)
 from afdx_tools.explaining import explain_all
 from afdx_tools.faults import Refused, shown
 from afdx_tools.guard import guarded
@@ -32,12 +47,16 @@ from afdx_tools.inputs import as_file
 from afdx_tools.naming import table_beside
 from afdx_tools.outputs import whole
 from afdx_tools.placing import clear
-from afdx_tools.program import HERE, program, version
-from afdx_tools.recordings.options import add_recording_words, files_of, handed_on
-from afdx_tools.report.criteria import add_words, suite_of, write_junit
+from afdx_tools.program import program, version
+from afdx_tools.recordings.options import add_recording_words
+from afdx_tools.report.criteria import CRITERIA, add_words, write_junit
 from afdx_tools.tables import as_text, csv_text
 
 TOOL = "afdx-campaign"
+HIDDEN = (
+    "with --from a switch may have let frames through that it had to drop for what came before, "
+    "or dropped some for which it had room: that isn't found"
+)
 
 
 def say(line: str) -> None:
@@ -45,32 +64,7 @@ def say(line: str) -> None:
     print(f"{TOOL}: {line}", file=sys.stderr)
 
 
-def job(args: argparse.Namespace, remote: bool) -> str:
-    """The command line of one run, which GNU parallel fills in, and quotes what it puts there: {1}
-    is the number of the run, {2} the list, {3} the recording of B beside it, or the configuration
-    where there is none, {4} the configuration, {5} the word that names the program, {6} the tool,
-    {7} the folder of pages, {8} and on the options of recordings; then the table of names that is
-    only copied. On another machine pages are written where the job runs, and so stand the files
-    that were copied there."""
-    words = ["--json"]
-    if args.no_admission:
-        words.append("--no-admission")
-    if args.fail_on:
-        words += ["--fail-on", ",".join(args.fail_on)]
-    words += [f"{{{place}}}" for place, _ in enumerate(handed_on(args), 8)]
-    words += ["--out", '"$out"'] if args.pages else []
-    names = "config={4} list={2} other={3}"
-    here = f"{names} out={{7}}/{{1}}"
-    there = "config=./{4/} list=./{2/} other=./{3/}" if args.transfer else names
-    choice = here
-    if remote:
-        choice = f'case "$PARALLEL_SSHLOGIN" in :) {here};; *) {there} out=pages/{{1}};; esac'
-    lists = 'set -- "$list"; if [ "$other" != "$config" ]; then set -- "$list" "$other"; fi'
-    run = f'env {{5}} {{6}} {" ".join(words)} -- "$config" "$@"'
-    return f"run={{1}}; {choice}; {lists}; {run}"
-
-
-def remote_words(args: argparse.Namespace) -> list[str]:
+def remote_words(args: argparse.Namespace, kind: Kind) -> list[str]:
     """What GNU parallel has to know where runs go to other machines."""
     needed = [name for name, on in (("--transfer", args.transfer), ("--pages", args.pages)) if on]
     if needed and shutil.which("rsync") is None:
@@ -81,9 +75,9 @@ def remote_words(args: argparse.Namespace) -> list[str]:
     if "PARALLEL_SSH" not in os.environ:
         words += ["--ssh", f"ssh {PATIENCE}"]
     if args.transfer:
-        copied = [2, 3, 4, *(8 + len(handed_on(args)) for _ in args.names)]
-        for word in args.lists:
-            files = (args.config, *args.names, *files_of(word))
+        copied = [2, 3, 4, *(FIRST + kind.count() for _ in args.names)]
+        for run in kind.runs:
+            files = (args.config, *args.names, *run.files)
             names = [os.path.basename(path) for path in files]
             if len(names) != len(set(names)):
                 raise Refused(
@@ -95,12 +89,12 @@ def remote_words(args: argparse.Namespace) -> list[str]:
     return words + (["--return", "pages/{1}"] if args.pages else [])
 
 
-def starter(args: argparse.Namespace, machines: Machines) -> list[str]:
+def starter(args: argparse.Namespace, kind: Kind, machines: Machines) -> list[str]:
     """The words of GNU parallel, which runs in the folder of the campaign."""
     parallel = shutil.which("parallel")
     if parallel is None:
         raise Refused("GNU parallel is missing: apt-get install parallel")
-    words = [parallel, "--null", "--max-args", str(7 + len(handed_on(args) + args.names))]
+    words = [parallel, "--null", "--max-args", str(FIRST - 1 + kind.count() + len(args.names))]
     words += ["--joblog", "+joblog", "--results", os.path.join("runs", "{1}", "")]
     if sys.stderr.isatty():
         words.append("--bar")
@@ -109,25 +103,21 @@ def starter(args: argparse.Namespace, machines: Machines) -> list[str]:
     if machines.are_named:
         words += ["--sshloginfile", "machines"]
     if machines.have_others:
-        words += remote_words(args)
-    return [*words, job(args, machines.have_others)]
+        words += remote_words(args, kind)
+    return [*words, kind.job(machines.have_others)]
 
 
-def report_tool() -> str:
-    """The path of afdx-report: beside the package, else on PATH."""
-    beside = os.path.join(HERE, "afdx-report")
-    return beside if os.access(beside, os.X_OK) else shutil.which("afdx-report") or beside
-
-
-def records(args: argparse.Namespace, numbers: Sequence[int]) -> Iterator[bytes]:
-    """What GNU parallel fills in for these runs."""
-    tool, config = report_tool(), os.path.abspath(args.config)
+def records(args: argparse.Namespace, kind: Kind, numbers: Sequence[int]) -> Iterator[bytes]:
+    """What GNU parallel fills in for these runs: the longest first, so that none of these runs
+    alone at the end."""
+    tool, config = kind.tool(), os.path.abspath(args.config)
     pages = os.path.abspath(os.path.join(args.out, "pages"))
     afdx = f"AFDX={os.path.abspath(program())}"
-    for number in numbers:
-        first, *second = (os.path.abspath(path) for path in files_of(args.lists[number - 1]))
+    for number in sorted(numbers, key=lambda number: -kind.runs[number - 1].size):
+        run = kind.runs[number - 1]
+        first, *second = (os.path.abspath(path) for path in run.files)
         files = [first, *(second or [config])]
-        words = [str(number), *files, config, afdx, tool, pages, *handed_on(args), *args.names]
+        words = [str(number), *files, config, afdx, tool, pages, *kind.words(run), *args.names]
         yield b"".join(os.fsencode(word) + b"\0" for word in words)
 
 
@@ -146,16 +136,22 @@ def noted(path: str) -> list[bytes]:
         return []
 
 
-def note_lists(args: argparse.Namespace) -> None:
-    """Notes the lists in their order, and the recordings of B beside them, or the configuration;
-    with --resume the earlier ones have to stand first again."""
+def note_lists(args: argparse.Namespace, kind: Kind) -> None:
+    """Notes the lists in their order, the recordings of B or what left beside them, or the
+    configuration, and which switch is judged; with --resume the earlier ones have to stand first
+    again."""
     for path in (os.path.join(args.out, name) for name in ("runs", "pages", "campaign.csv")):
         if not args.resume or os.path.islink(path):  # nothing is written where a link leads to
             clear(path)
-    runs = [(*files_of(word), args.config)[:2] for word in args.lists]
-    for name, files in zip(("lists", "others"), zip(*runs)):
+    notes: dict[str, list[str]] = {"lists": [], "others": [], "judged": []}
+    for run in kind.runs:
+        first, other, *_ = (os.path.abspath(path) for path in (*run.files, args.config))
+        judged = f"switch {run.switch}" if args.conform else ""
+        for each, note in zip(notes.values(), (first, other, judged)):
+            each.append(note)
+    for name, noted_now in notes.items():
         path = os.path.join(args.out, name)
-        names = [os.fsencode(os.path.abspath(file)) for file in files]
+        names = list(map(os.fsencode, noted_now))
         before = noted(path) if args.resume else []
         if names[: len(before)] != before:
             raise Refused(
@@ -169,9 +165,8 @@ def note_lists(args: argparse.Namespace) -> None:
 class Campaign:
     """The runs of a campaign: what came of each, and on which machines each was tried since."""
 
-    def __init__(self, args: argparse.Namespace, machines: Machines) -> None:
-        self.args = args
-        self.machines = machines
+    def __init__(self, args: argparse.Namespace, kind: Kind, machines: Machines) -> None:
+        self.args, self.kind, self.machines = args, kind, machines
         self.outcomes: dict[int, Outcome] = {}
         self.tried: dict[int, list[str]] = defaultdict(list)
         self.going_to: list[str] = []
@@ -182,15 +177,12 @@ class Campaign:
 
     def numbers(self) -> set[int]:
         """The numbers of all runs."""
-        return set(range(1, len(self.args.lists) + 1))
+        return set(range(1, len(self.kind.runs) + 1))
 
     def take(self, attempt: Attempt) -> Outcome:
         """Notes what came of a run."""
-        args, number = self.args, attempt.number
-        wants_page = args.pages and attempt.machine != THIS
-        named = attempt._replace(machine=self.machines.shown(attempt.machine))
-        outcome = outcome_of(args.out, named, args.lists[number - 1], args.fail_on, wants_page)
-        self.outcomes[number] = outcome
+        outcome = self.kind.outcome_of(attempt, self.machines.shown(attempt.machine))
+        self.outcomes[attempt.number] = outcome
         return outcome
 
     def look(self) -> bool:
@@ -221,7 +213,7 @@ class Campaign:
             for folder, number in itertools.product(("runs", "pages"), numbers):
                 clear(os.path.join(self.args.out, folder, str(number)))
             before = sum(map(len, self.tried.values()))
-            play(words, records(self.args, numbers), self.args.out, self.look)
+            play(words, records(self.args, self.kind, numbers), self.args.out, self.look)
             if sum(map(len, self.tried.values())) == before and self.going_to == names:
                 return  # GNU parallel began nothing, and has said why
 
@@ -230,28 +222,44 @@ class Campaign:
         return number in self.outcomes and self.outcomes[number].is_result
 
     def all_outcomes(self) -> list[Outcome]:
-        """What came of each list, in their order."""
-        lists = enumerate(self.args.lists, 1)
-        return [self.outcomes.get(number) or not_run(name) for number, name in lists]
+        """What came of each run, in their order."""
+        runs = enumerate(self.kind.runs, 1)
+        return [self.outcomes.get(number) or self.kind.not_run(run) for number, run in runs]
 
 
-def report(args: argparse.Namespace, outcomes: Sequence[Outcome]) -> None:
+def report(args: argparse.Namespace, kind: Kind, outcomes: Sequence[Outcome]) -> None:
     """Writes the table and the criteria, and prints the table with a last line of sums."""
     if args.junit:
-        suites = [
-            suite_of(name, outcome.fault, outcome.totals, args.fail_on, outcome.findings)
-            for name, outcome in zip(args.lists, outcomes)
-        ]
-        write_junit(args.junit, suites)
+        write_junit(args.junit, list(map(kind.suite_of, kind.runs, outcomes)))
     rows = [{**outcome.row, "machine": shown(outcome.machine)} for outcome in outcomes]
     with whole(os.path.join(args.out, "campaign.csv")) as file:
         file.write(csv_text(rows).encode(errors="backslashreplace"))
-    print(as_text([*(outcome.row for outcome in outcomes), sum_row(outcomes)]), end="")
+    for number, (run, outcome) in enumerate(zip(kind.runs, outcomes), 1):
+        if outcome.remarks:
+            path = os.path.join(args.out, "runs", str(number), "stderr")
+            say(shown(f"{run.switch or run.name}: {path} says: {outcome.remarks}"))
+    print(as_text([*(outcome.row for outcome in outcomes), kind.sum_row(outcomes)]), end="")
     faults = [outcome.fault.removeprefix(SPEAKER) for outcome in outcomes]
     explain_all(faults, ["check", as_file(args.config)])
+    if args.begin is not None:
+        say(HIDDEN)
     missing = sum(not outcome.is_result for outcome in outcomes)
     if missing:
         say(f"{missing} of {len(outcomes)} runs have no result (--resume repeats them)")
+
+
+def kind_of(args: argparse.Namespace) -> Kind:
+    """What the runs are; Refused where a word is of the other kind."""
+    if args.conform:
+        config = read_config(as_file(args.config))
+        return Judgements(args, judgements(config, args.lists, args.switch, args.taps))
+    refuse_conform_options(args)
+    if args.begin is not None:
+        raise Refused("--from is an option with --conform only")
+    others = [word for word in args.fail_on if word not in CRITERIA]
+    if others:
+        raise Refused(f"--fail-on {others[0]} is a criterion with --conform only")
+    return Replays(args, replays(args.lists))
 
 
 def run(args: argparse.Namespace) -> int:
@@ -259,13 +267,14 @@ def run(args: argparse.Namespace) -> int:
     args.out, args.names = as_file(args.out), names_to_copy(args)
     version()  # built once, if at all
     machines = Machines(args.sshlogin)
-    words = starter(args, machines)
+    kind = kind_of(args)
+    words = starter(args, kind, machines)
     os.makedirs(args.out, exist_ok=True)
-    note_lists(args)
-    campaign = Campaign(args, machines)
+    note_lists(args, kind)
+    campaign = Campaign(args, kind, machines)
     campaign.run_all(words)
     outcomes = campaign.all_outcomes()
-    report(args, outcomes)
+    report(args, kind, outcomes)
     return worst(outcomes)
 
 
@@ -274,7 +283,9 @@ def words() -> argparse.ArgumentParser:
     parser = parser_of(TOOL, __doc__)
     add = parser.add_argument
     add("config", metavar="CONFIG", help="the configuration of the network")
-    add("lists", nargs="+", metavar="LIST", help="a frame list, a recording, or A.pcapng,B.pcapng")
+    files = "a frame list, a recording, or A.pcapng,B.pcapng; with --conform a recording or "
+    files += "CAME,LEFT, of several switches also with NAME= before it"
+    add("lists", nargs="+", metavar="LIST", help=files)
     add("--out", metavar="DIR", default="campaign", help="the folder of the campaign (campaign)")
     add("--no-admission", action="store_true", help="also where the network isn't admitted")
     add("--pages", action="store_true", help="a page for each run too, pages/1 and so on")
@@ -294,8 +305,11 @@ def words() -> argparse.ArgumentParser:
         action="store_true",
         help="copy lists and configuration to those machines first (rsync)",
     )
-    add_recording_words(parser)
-    add_words(parser)
+    add_recording_words(parser, BY_ROLE)
+    add_words(parser, of_switches=True)
+    add_conform_words(parser)
+    begin = "what came before this is passed over, with --conform"
+    add("--from", dest="begin", type=whole_number(0, LATEST), metavar="NS", help=begin)
     return parser
 
 

@@ -28,7 +28,7 @@ from afdx_tools.config import read_config
 from afdx_tools.faults import Refused, shown
 from afdx_tools.guard import guarded
 from afdx_tools.progress import Progress
-from afdx_tools.recordings.tapped import DISAGREE, checked, word_for, word_of
+from afdx_tools.recordings.tapped import DISAGREE, OF_REPLAYS, asked_for, checked
 from afdx_tools.recordings.taps import WrongTaps, read_taps
 
 TOOL = "afdx-taps"
@@ -51,9 +51,10 @@ def words_of(args: argparse.Namespace) -> tuple[list[str], int]:
         if os.path.exists(path) and not os.path.isfile(path):
             raise Refused(f"{shown(path)} is no file, and it has to be read twice")
     try:
-        taps, config = read_taps(args.taps), read_config(args.config)
-        word = word_for(config, args.switch) if args.conform else word_of
-        found = checked(config, taps, recordings, recordings, Progress(TOOL), word)
+        taps = read_taps(args.taps, args.switch if args.conform else None)
+        config = read_config(args.config)
+        asked = asked_for(config, args.switch) if args.conform else OF_REPLAYS
+        found = checked(config, taps, recordings, recordings, Progress(TOOL), asked)
     except WrongTaps as wrong:
         say(wrong.lines)
         return [], 2

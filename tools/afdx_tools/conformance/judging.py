@@ -7,9 +7,8 @@ from dataclasses import dataclass, field
 from typing import Iterable, NamedTuple, Sequence
 
 from afdx_tools.faults import Failed, shown
-from afdx_tools.known import kinds
+from afdx_tools.known import counts_of, kinds
 from afdx_tools.program import program
-from afdx_tools.replay.running import counts_of
 
 SKIPPED = "skipped "  # how the line of what was skipped begins
 FINDING = re.compile(r"(?P<word>[a-z]+) (?P<n>[0-9]+) (?P<side>[AB]) (?P<port>[0-9]+)"

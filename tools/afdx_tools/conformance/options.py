@@ -3,7 +3,7 @@ from __future__ import annotations
 
 import argparse
 from dataclasses import dataclass, replace
-from typing import Sequence
+from typing import Mapping, Sequence
 
 from afdx_tools.command_line import whole
 from afdx_tools.conformance.recorded import Recorders
@@ -101,9 +101,11 @@ class Options:
         )
 
 
-def conform_options(args: argparse.Namespace) -> Options:
+def conform_options(
+    args: argparse.Namespace, of_replays: Mapping[str, object] = OF_REPLAYS
+) -> Options:
     """The options that were given; Refused where some of replays were given, too."""
-    for name, default in OF_REPLAYS.items():
+    for name, default in of_replays.items():
         if getattr(args, name) != default:
             raise Refused(f"--{name.replace('_', '-')} isn't an option with --conform")
     amounts = {name: getattr(args, name) for name in AMOUNTS}

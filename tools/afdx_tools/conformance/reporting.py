@@ -30,10 +30,10 @@ from afdx_tools.outputs import write_folder
 from afdx_tools.program import program, version
 from afdx_tools.progress import Progress
 from afdx_tools.recordings.options import is_recording
-from afdx_tools.recordings.tapped import found_by, word_for
+from afdx_tools.recordings.tapped import asked_for, found_by
 from afdx_tools.replay.running import check
 from afdx_tools.report.cover import Cover
-from afdx_tools.report.criteria import suite_of, write_junit
+from afdx_tools.report.criteria import add_conforms, suite_of, write_junit
 from afdx_tools.report.made import digest, run_of
 from afdx_tools.report.where import utc
 from afdx_tools.tables import VERSION, WRITTEN, Row, csv_text
@@ -80,8 +80,8 @@ def tapped(
         return options
     if len(inputs.paths) > 1:
         raise Refused("--taps takes one recording with --conform, of what came and of what left")
-    word = word_for(read_config(inputs.config), options.switch)
-    found = found_by(args.taps, inputs.config, inputs.paths, [args.list], progress, word)
+    asked = asked_for(read_config(inputs.config), options.switch)
+    found = found_by(args.taps, inputs.config, inputs.paths, [args.list], progress, asked)
     return options.tapped(found.words)
 
 
@@ -208,14 +208,9 @@ def write_files(report: Row, known: Collection[str], folder: str, most: int) -> 
 def suite(name: str, report: Row) -> xml.Element:
     """The run as a test suite: that it ended without a fault, and that the switch conforms."""
     found = suite_of(name, report["fault"], None, [])
-    case = xml.SubElement(found, "testcase", classname=shown(name), name="conforms")
-    found.set("tests", "2")
-    if report["fault"]:
-        xml.SubElement(case, "skipped", message="there is no verdict")
-    elif report["status"]:
-        found.set("failures", "1")
-        failure = xml.SubElement(case, "failure", message=report["verdict"])
-        failure.text = "\n".join(shown(group["words"]) for group in report["groups"]) or None
+    unlike = report["verdict"] if report["status"] else ""
+    why = [group["words"] for group in report["groups"]]
+    add_conforms(found, name, not report["fault"], unlike, why)
     return found
 
 

@@ -192,7 +192,12 @@ def note_frames(found: Found, claims: Claims, tapped: Tapped) -> None:
 # ---- the words -----------------------------------------------------------------------------------
 
 
-Word = Callable[[Claims, Tap, int], str]
+class Asked(NamedTuple):
+    """What is asked of a table: the word of an interface, and where one of several switches is
+    judged, which: rows of others may be of other recordings."""
+
+    word: Callable[[Claims, Tap, int], str]
+    switch: str | None = None
 
 
 def word_of(claims: Claims, tap: Tap, number: int) -> str:
@@ -201,13 +206,18 @@ def word_of(claims: Claims, tap: Tap, number: int) -> str:
     return f"--interface={number}={tap.place if is_in else '-'}"
 
 
-def word_for(config: Config, switch: str | None) -> Word:
-    """The words of `conform`, of one switch of several: there cables bring arrivals, too, what
-    leaves counts, and an interface without a word is left out."""
+def want_switch(config: Config, switch: str | None) -> None:
+    """Refused where that is no switch of the configuration, or none is said of several."""
     if (switch or "") not in (config.names or ("",)):
         names = ", ".join(config.names)
         what = f"it has to be one of {names}" if names else "there is one switch a side"
-        raise Refused(f"--switch {switch or 'is missing'}: {what}")
+        raise Refused(f"--switch {shown(switch) if switch else 'is missing'}: {what}")
+
+
+def asked_for(config: Config, switch: str | None) -> Asked:
+    """The words of `conform`, of one switch of several: there cables bring arrivals, too, what
+    leaves counts, and an interface without a word is left out."""
+    want_switch(config, switch)
 
     def word(_: Claims, tap: Tap, number: int) -> str:
         if tap.place is None or tap.place.switch != (switch or ""):
@@ -215,13 +225,17 @@ def word_for(config: Config, switch: str | None) -> Word:
         name = "interface" if tap.direction == IN else "left"
         return f"--{name}={number}={tap.place.side}:{tap.place.port}"
 
-    return word
+    return Asked(word, switch)
 
 
-def note_words(found: Found, claims: Claims, rows: list[dict[int, Tap]], word: Word) -> None:
+OF_REPLAYS = Asked(word_of)
+
+
+def note_words(found: Found, claims: Claims, rows: list[dict[int, Tap]], asked: Asked) -> None:
     """The words for all recordings; an interface that is left out is so in both."""
     for number in sorted(set().union(*rows)):
-        words = {word(claims, each[number], number) for each in rows if number in each} - {""}
+        words = {asked.word(claims, each[number], number) for each in rows if number in each}
+        words -= {""}
         if f"--interface={number}=-" in words and len(words) > 1:
             found.faults.append(
                 f"interface {number} is left out of one recording and not of the other, which no "
@@ -265,11 +279,10 @@ def checked(
     paths: list[str],
     names: list[str],
     progress: Progress,
-    word: Word = word_of,
+    asked: Asked = OF_REPLAYS,
 ) -> Found:
     """Looks at one recording, or at those of A and B, and at the table. Recordings have to be files
-    that can be read again; `names` are what they are called, `word` says the word of each
-    interface."""
+    that can be read again; `names` are what they are called."""
     found = Found()
     want_switches(config, taps)
     if len(paths) == 2 and are_same(paths):
@@ -286,7 +299,7 @@ def checked(
         if swapped(recording):
             found.faults.append(swapped(recording))
             continue
-        rows.append(matched(found, taps, recording))
+        rows.append(matched(found, taps, recording, asked.switch))
         all_tapped += [
             Tapped(recording.name, number, recording.interfaces[number], tap)
             for number, tap in rows[-1].items()
@@ -294,7 +307,7 @@ def checked(
     claims = Claims(config, all_tapped)
     for tapped in all_tapped:
         note_frames(found, claims, tapped)
-    note_words(found, claims, rows, word)
+    note_words(found, claims, rows, asked)
     return found
 
 
@@ -304,10 +317,11 @@ def found_by(
     paths: list[str],
     names: list[str],
     progress: Progress,
-    word: Word = word_of,
+    asked: Asked = OF_REPLAYS,
 ) -> Found:
     """What the recordings are, by a table of --taps; Failed where they don't agree with it."""
-    found = checked(read_config(config), read_taps(taps), paths, names, progress, word)
+    rows = read_taps(taps, asked.switch)
+    found = checked(read_config(config), rows, paths, names, progress, asked)
     if found.faults:
         more = len(found.faults) - 1
         others = f" (and {more} more; afdx-taps says all)" if more else ""

@@ -111,12 +111,33 @@ class WrongTaps(Refused):
         self.lines = lines
 
 
-def read_taps(path: str) -> list[Tap]:
-    """The rows of a table; WrongTaps where something is wrong with it."""
+def for_switch(taps: list[Tap], switch: str) -> list[Tap]:
+    """The rows where one of several switches is judged: its own, those of no place, and of other
+    switches those of interfaces that none of these names. For each switch may have a recorder of
+    its own, and these have interfaces of the same names."""
+    own = [tap for tap in taps if tap.place is None or tap.place.switch == switch]
+    names = {tap.name for tap in own}
+    others = {tap.name: tap for tap in taps if tap.name not in names}
+    return own + list(others.values())
+
+
+def read_rows(path: str) -> list[Tap]:
+    """All rows of a table, each looked at alone; WrongTaps where something is wrong with one."""
     faults: list[str] = []
     taps = [tap_of(row, faults) for row in read_sheet(path, COLUMNS).rows]
-    if not faults:
-        refuse_twice(taps, faults)
+    if faults:
+        raise WrongTaps(faults)
+    return taps
+
+
+def read_taps(path: str, switch: str | None = None) -> list[Tap]:
+    """The rows of a table, where one of several switches is judged those for it; WrongTaps where
+    something is wrong with them."""
+    faults: list[str] = []
+    taps = read_rows(path)
+    if switch is not None:
+        taps = for_switch(taps, switch)
+    refuse_twice(taps, faults)
     if faults:
         raise WrongTaps(faults)
     return taps
@@ -175,9 +196,11 @@ def is_crossed(table: Table, recording: Recording) -> bool:
     return recording.side is not None and bool(sides) and recording.side not in sides
 
 
-def matched(found: Found, taps: list[Tap], recording: Recording) -> dict[int, Tap]:
+def matched(
+    found: Found, taps: list[Tap], recording: Recording, switch: str | None = None
+) -> dict[int, Tap]:
     """The row of each interface of a recording, by its number. What has none is noted, and rows
-    without an interface."""
+    without an interface, of the switch alone where one of several is judged."""
     rows: dict[int, Tap] = {}
     table, taken = Table(taps), set()
     if is_crossed(table, recording):
@@ -195,8 +218,9 @@ def matched(found: Found, taps: list[Tap], recording: Recording) -> dict[int, Ta
         else:
             rows[number] = tap
             taken.add(tap.row.place)
+    own = [tap for tap in taps if tap.place and switch in (None, tap.place.switch)]
     for side in "AB":
-        note_absent(found, recording, side, taps, taken)
+        note_absent(found, recording, side, own, taken)
     return rows
 
 

@@ -5,12 +5,13 @@ import re
 import subprocess
 import tempfile
 from dataclasses import dataclass, field
-from typing import TYPE_CHECKING, Sequence
+from typing import TYPE_CHECKING
 
 import numpy as np
 
 from afdx_tools.config import Config
 from afdx_tools.faults import Failed, shown
+from afdx_tools.known import counts_of
 from afdx_tools.lists import MOST_LINES
 from afdx_tools.program import program
 from afdx_tools.progress import Progress
@@ -85,11 +86,6 @@ def check(afdx: str, config: str) -> Checked:
 def ended_by(status: int) -> str:
     """What is said of a program that said nothing itself."""
     return f"the program was ended by signal {-status}" if status < 0 else f"status {status}"
-
-
-def counts_of(words: Sequence[str]) -> dict[str, int]:
-    """Words that have their counts behind them, as in a line `skipped WORD N WORD N ..`."""
-    return dict(zip(words[::2], map(int, words[1::2])))
 
 
 def taken_of(path: str, sites: Sites) -> int:

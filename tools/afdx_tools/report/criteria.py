@@ -2,7 +2,7 @@
 from __future__ import annotations
 
 import argparse
-from typing import Sequence
+from typing import Callable, Mapping, Sequence
 from xml.etree import ElementTree as xml
 
 from afdx_tools.faults import shown
@@ -30,28 +30,39 @@ CRITERIA = {
     "unused": "interfaces that were named and that the recording doesn't have",
     "claimed": "frames of which only their own addresses say where they came in",
 }
+OF_SWITCHES = {  # of a recorded switch, by the last line of `conform`
+    "open": "frames that may have left behind the end",
+    "uncertain": "answers of the account that were left open",
+    "left-out": "lines and frames that were passed over",
+    "unseen": "links at output ports that weren't recorded",
+    "idle": "links at recorded output ports of which nothing was shown",
+}
 LOST = ("full-buffer", "too-old", "missing")  # what `lost` stands for: sent, and gone for good
 
 
-def criteria_of(text: str) -> list[str]:
+def criteria_among(known: Sequence[str]) -> Callable[[str], list[str]]:
     """The type of the word of --fail-on: criteria with commas between them."""
-    words: set[str] = set()
-    for word in text.split(","):
-        if word not in CRITERIA and word != "lost":
-            raise argparse.ArgumentTypeError(f"{word} is none of {', '.join(CRITERIA)}, lost")
-        words |= set(LOST) if word == "lost" else {word}
-    return [word for word in CRITERIA if word in words]
+
+    def criteria_of(text: str) -> list[str]:
+        words: set[str] = set()
+        for word in text.split(","):
+            if word not in known and word != "lost":
+                raise argparse.ArgumentTypeError(f"{word} is none of {', '.join(known)}, lost")
+            words |= set(LOST) if word == "lost" else {word}
+        return [word for word in known if word in words]
+
+    return criteria_of
 
 
-def add_words(parser: argparse.ArgumentParser) -> None:
-    """Teaches a parser --fail-on and --junit."""
+def add_words(parser: argparse.ArgumentParser, of_switches: bool = False) -> None:
+    """Teaches a parser --fail-on, with the criteria of recorded switches too where it judges such,
+    and --junit."""
+    known = list(CRITERIA | OF_SWITCHES if of_switches else CRITERIA)
+    told = f"status {FAILED} where one of these isn't 0, with commas: {', '.join(known)}; "
+    told += f"lost stands for {', '.join(LOST)}"
+    told += f"; with --conform one of {', '.join(OF_SWITCHES)}" if of_switches else ""
     parser.add_argument(
-        "--fail-on",
-        type=criteria_of,
-        default=[],
-        metavar="WORDS",
-        help=f"status {FAILED} where one of these isn't 0, with commas: {', '.join(CRITERIA)}; "
-        f"lost stands for {', '.join(LOST)}",
+        "--fail-on", type=criteria_among(known), default=[], metavar="WORDS", help=told
     )
     parser.add_argument(
         "--junit", metavar="FILE", help="write the run and each criterion as a JUnit test case"
@@ -89,7 +100,12 @@ def status_of(status: int, unmet: Sequence[str]) -> int:
 
 
 def suite_of(
-    name: str, fault: str, totals: Row | None, words: Sequence[str], findings: Sequence[Row] = ()
+    name: str,
+    fault: str,
+    totals: Row | None,
+    words: Sequence[str],
+    findings: Sequence[Row] = (),
+    meanings: Mapping[str, str] = CRITERIA,
 ) -> xml.Element:
     """A run as a test suite: a case that it ended without a fault, and one for each criterion with
     the findings that it is about."""
@@ -105,13 +121,27 @@ def suite_of(
             xml.SubElement(case, "skipped", message="the run gave no report")
         elif count := failure_of(totals, word):
             failures += 1
-            message = f"{count} {CRITERIA[word]}{places_of(totals, word)}"
+            message = f"{count} {meanings[word]}{places_of(totals, word)}"
             failure = xml.SubElement(case, "failure", message=message)
             about = [shown(one["words"]) for one in findings if one["criterion"] == word]
             failure.text = "\n".join(about) or None
     suite.set("errors", str(errors))
     suite.set("failures", str(failures))
     return suite
+
+
+def add_conforms(
+    suite: xml.Element, name: str, has_verdict: bool, unlike: str, why: Sequence[str]
+) -> None:
+    """Adds a case that a recorded switch conforms: `unlike` is its verdict where it doesn't."""
+    case = xml.SubElement(suite, "testcase", classname=shown(name), name="conforms")
+    suite.set("tests", str(int(suite.get("tests", 0)) + 1))
+    if not has_verdict:
+        xml.SubElement(case, "skipped", message="there is no verdict")
+    elif unlike:
+        suite.set("failures", str(int(suite.get("failures", 0)) + 1))
+        failure = xml.SubElement(case, "failure", message=unlike)
+        failure.text = "\n".join(map(shown, why)) or None
 
 
 def write_junit(path: str, suites: Sequence[xml.Element]) -> None:
