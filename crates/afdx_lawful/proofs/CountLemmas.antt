@@ -1,16 +1,15 @@
 -- How many frames wait.
-use Rattle.std.proofs.Common.{◌≡◌, ℕ, ◌+◌, ◌≤◌, Bool, true, false, List, [], ◌∷◌, ◌++◌, refl, sym, ap, ap₂, ◌∙◌}
+use Rattle.std.proofs.Common.{◌≡◌, ℕ, ◌+◌, ◌≤◌, Bool, true, false, List, [], ◌∷◌, ◌++◌, refl, ap, ◌∙◌}
 use Rattle.std.proofs.Common.{arith, length}
-use Rattle.std.specs.Prelude.{zero, suc, not, filter, map, if◌then◌else◌, nat_le}
+use Rattle.std.specs.Prelude.{zero, suc, not, filter, if◌then◌else◌, nat_le}
 use Rattle.std.specs.List.{list_any}
 use Rattle.std.proofs.lemmas.Bool.{le-leb}
-use Rattle.std.proofs.lemmas.List.{length-append, length-map}
-use Rattle.std.proofs.lemmas.List.Elements.{filter-append}
+use Rattle.std.proofs.lemmas.List.{length-map}
 use Rattle.std.proofs.lemmas.List.Filters.{length-filter_both}
 use Rattle.afdx_frame.specs.Sides.{is_side}
 use Rattle.afdx_frame.specs.declared.link.Side.{Side}
 use Rattle.afdx_frame.specs.declared.link.Side.TheVariants.{A, B}
-use Rattle.afdx_lawful.specs.Courses.{AllTold, AreOpen, Course, over, waited_of, waited_on}
+use Rattle.afdx_lawful.specs.Courses.{AllTold, AreOpen, Course, over, waited_on}
 use Rattle.afdx_lawful.specs.Flaws.{is_whole, whole_of}
 use Rattle.afdx_lawful.specs.Judged.{waiting_of}
 use Rattle.afdx_lawful.specs.Partners.{Waiting, joined, may_pair, other, waits_now, waiting, without_first}
@@ -27,7 +26,8 @@ module _ {X : Type 0} (p : X → Bool) where
   count_first : (x : X) (xs : List X) → count (x ∷ xs) ≡ (if p x then 1 else 0) + count xs
   count_first x xs = by (p x)
     where
-      by : (b : Bool) → length (if b then x ∷ filter p xs else filter p xs) ≡ (if b then 1 else 0) + length (filter p xs)
+      by : (b : Bool) → length (if b then x ∷ filter p xs else filter p xs)
+          ≡ (if b then 1 else 0) + length (filter p xs)
       by true = omega arith
       by false = omega arith
 

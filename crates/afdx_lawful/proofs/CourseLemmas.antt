@@ -1,20 +1,18 @@
 -- What was told stays so.
-use Rattle.std.proofs.Common.{◌≡◌, ℕ, ◌+◌, ◌-◌, ◌≤◌, ◌<◌, Bool, true, false, ◌&&◌, ◌||◌, List, [], ◌∷◌, ◌++◌, refl, sym, ap, ap₂, ◌∙◌}
+use Rattle.std.proofs.Common.{◌≡◌, ℕ, ◌+◌, ◌≤◌, ◌<◌, Bool, true, false, ◌&&◌, ◌||◌, List, [], ◌∷◌, ◌++◌, refl, sym, ap, ap₂, ◌∙◌}
 use Rattle.std.proofs.Common.{arith}
-use Rattle.std.specs.Prelude.{not, max, filter, if◌then◌else◌, nat_le, nat_lt}
-use Rattle.std.specs.List.{AllByRecursion, list_any}
+use Rattle.std.specs.Prelude.{not, max, if◌then◌else◌, nat_le, nat_lt}
+use Rattle.std.specs.List.{list_any}
 use Rattle.std.proofs.lemmas.Bool.{lt-leb}
 use Rattle.afdx_frame.specs.Sides.{is_side}
 use Rattle.afdx_frame.specs.declared.link.Side.{Side}
 use Rattle.afdx_frame.specs.declared.link.Side.TheVariants.{A, B}
 use Rattle.afdx_receive.specs.Steps.{is_within_steps}
-use Rattle.afdx_lawful.specs.Accepted.{ComeUpTo}
 use Rattle.afdx_lawful.specs.Alone.{number_in}
 use Rattle.afdx_lawful.specs.Courses.{AreJudged, ArePast, Course, IsCourse, Unpaired, at_first, came_too, judge_waiting, over, told_at}
 use Rattle.afdx_lawful.specs.Courses.{told_on, waited_of, waited_on}
 use Rattle.afdx_lawful.specs.Flaws.{is_whole, whole_of}
-use Rattle.afdx_lawful.specs.Judged.{is_cut_of}
-use Rattle.afdx_lawful.specs.Partners.{Waiting, had_begun, is_before, is_cut, is_near, other, went_on}
+use Rattle.afdx_lawful.specs.Partners.{Waiting, is_before, is_cut, is_near, other}
 use Rattle.afdx_lawful.specs.Sources.{Came, Source, apart, hold, on_side, slip}
 use Rattle.afdx_lawful.proofs.CutLemmas.{up_later}
 use Rattle.afdx_lawful.proofs.PastLemmas.{all_and, past_later}

@@ -8,9 +8,8 @@ use Rattle.std.proofs.lemmas.List.{get_or-replicate, get_or-set_other, get_or_pa
 use Rattle.std.proofs.lemmas.Grind.{get_or-set_at}
 use Rattle.afdx_lawful.specs.Accepted.{ComeUpTo}
 use Rattle.afdx_lawful.specs.Alone.{number_in}
-use Rattle.afdx_lawful.specs.LastCame.{AreLast, behind, last_time, stands_so}
+use Rattle.afdx_lawful.specs.LastCame.{behind, last_time, stands_so}
 use Rattle.afdx_lawful.specs.Sources.{Came}
-use Rattle.afdx_lawful.specs.declared.last.LastCame.{LastCame}
 
 -- ---- the table
 

@@ -1,8 +1,8 @@
 -- Frames that waited in vain, and can't be the copies of later ones.
-use Rattle.std.proofs.Common.{◌≡◌, ℕ, ◌+◌, ◌<◌, Bool, true, false, List, [], ◌∷◌, ◌++◌, refl, sym, ap, ap₂, ◌∙◌}
+use Rattle.std.proofs.Common.{◌≡◌, ℕ, ◌+◌, ◌<◌, Bool, true, false, List, [], ◌∷◌, ◌++◌, refl, ap}
 use Rattle.std.proofs.Common.{◌≤◌, Some, arith}
-use Rattle.std.specs.Prelude.{find, if◌then◌else◌, ◌||◌, ◌&&◌, nat_eq, nat_le}
-use Rattle.std.specs.List.{AllByRecursion, list_any}
+use Rattle.std.specs.Prelude.{find, if◌then◌else◌, ◌&&◌, nat_eq, nat_le}
+use Rattle.std.specs.List.{AllByRecursion}
 use Rattle.std.proofs.lemmas.Bool.{lt-leb}
 use Rattle.afdx_lawful.specs.Alone.{number_in}
 use Rattle.afdx_lawful.specs.Accepted.{ComeUpTo}

@@ -1,5 +1,5 @@
 -- A frame that comes next.
-use Rattle.std.proofs.Common.{◌≡◌, ℕ, ◌≤◌}
+use Rattle.std.proofs.Common.{◌≤◌}
 use Rattle.afdx_lawful.specs.Accepted.{ComeUpTo}
 use Rattle.afdx_lawful.specs.Courses.{Course, NotBefore, next_told, waited_on}
 use Rattle.afdx_lawful.specs.Senders.{StandsFor}

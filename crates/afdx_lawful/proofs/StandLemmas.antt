@@ -1,8 +1,8 @@
 -- What waits on both sides, by what the code keeps.
-use Rattle.std.proofs.Common.{◌≡◌, ℕ, ◌+◌, ◌-◌, ◌≤◌, ◌<◌, Bool, true, false, List, [], ◌∷◌, ◌++◌, refl, sym, ap, ap₂, ◌∙◌, subst}
-use Rattle.std.proofs.Common.{append_assoc, arith, drop, length, Option, Some, None}
-use Rattle.std.specs.Prelude.{if◌then◌else◌, map, option_map, nat_le, IfNone, IfSome}
-use Rattle.std.specs.List.{AllByRecursion, list_any}
+use Rattle.std.proofs.Common.{◌≡◌, ℕ, ◌+◌, ◌≤◌, ◌<◌, Bool, true, false, List, [], ◌∷◌, ◌++◌, refl, sym, ap, ap₂, ◌∙◌, subst}
+use Rattle.std.proofs.Common.{append_assoc, arith, drop, Option, Some, None}
+use Rattle.std.specs.Prelude.{if◌then◌else◌, option_map, nat_le, IfNone, IfSome}
+use Rattle.std.specs.List.{list_any}
 use Rattle.std.proofs.Math.Seq.{drop-append_seam}
 use Rattle.std.proofs.lemmas.Bool.{le-leb, leb-true, leb-false, lt-leb}
 use Rattle.std.proofs.lemmas.List.{length-map, map-append}
@@ -10,7 +10,7 @@ use Rattle.afdx_frame.specs.Sides.{is_side}
 use Rattle.afdx_frame.specs.declared.link.Side.{Side}
 use Rattle.afdx_frame.specs.declared.link.Side.TheVariants.{A, B}
 use Rattle.afdx_lawful.specs.Accepted.{ComeUpTo}
-use Rattle.afdx_lawful.specs.Courses.{AllTold, AreHeld, AreOpen, ArePast, Course, NotBefore, Unpaired, next_told, oldest}
+use Rattle.afdx_lawful.specs.Courses.{AllTold, AreHeld, AreOpen, Course, NotBefore, Unpaired, next_told, oldest}
 use Rattle.afdx_lawful.specs.Courses.{came_too, over, sooner, still_waiting, told_at, told_on, waited_on}
 use Rattle.afdx_lawful.specs.Flaws.{is_whole, whole_of}
 use Rattle.afdx_lawful.specs.Judged.{waiting_of}
@@ -138,7 +138,8 @@ module _ (s : Source) (c : Course) where
   module _ (both : BothSides) (h : StandBoth s c.came (waited_on c) both) where
     pub next_is : next_told s c ≡ next_in both
     next_is =
-        ap₂ (λ (a b : List Waiting). sooner (oldest a) (oldest b)) (still_is A both.a h.here) (still_is B both.b h.there)
+        ap₂ (λ (a b : List Waiting). sooner (oldest a) (oldest b)) (still_is A both.a h.here)
+        (still_is B both.b h.there)
 
     pub none_left : next_in both ≡ None → AllTold s c
     none_left none = told (ring_on A both) (ring_on B both) refl refl none

@@ -1,5 +1,5 @@
 -- What is counted of a source, and what of it is told.
-use Rattle.std.specs.Prelude.{◌≡◌, ℕ, ◌+◌, ◌-◌, ◌^◌, min, not, List, ◌++◌, length, map, filter, reverse}
+use Rattle.std.specs.Prelude.{◌≡◌, ℕ, ◌+◌, min, not, List, length, map, filter, reverse}
 use Rattle.afdx_frame.specs.declared.link.Side.TheVariants.{A, B}
 use Rattle.afdx_lawful.specs.Courses.{Course, Unpaired, over, waited_of}
 use Rattle.afdx_lawful.specs.Judged.{Found, judged_source, quiet, single_at}

@@ -148,11 +148,12 @@ pub(crate) fn hear(
         IsNext s side x gone own.old other.old → ComeUpTo x.time past →
         StandOn s side past gone own.old other.old →
         OnOk result (StandOn s side (x ∷ past) gone own.new other.new) }
-    ensures refused { (s : Terms) (side : Side) (past : List Came) (gone : Side → List Waiting) →
-        StandOn s side past gone own.old other.old →
+    ensures refused { (s : Terms) (side : Side) (past : List Came)
+        (gone : Side → List Waiting) → StandOn s side past gone own.old other.old →
         OnErr result (StandOn s side past gone own.new other.new) }
     ensures waits { (s : Terms) (side : Side) (past : List Came) (gone : Side → List Waiting)
-        (x : Came) → AreTerms s terms.now → IsCame side whole.entry x → IsNext s side x gone own.old other.old →
+        (x : Came) → AreTerms s terms.now → IsCame side whole.entry x →
+        IsNext s side x gone own.old other.old →
         StandOn s side past gone own.old other.old → OnErr result (HasToWait s past x) }
 {
     let mut track = own.track;

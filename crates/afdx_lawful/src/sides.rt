@@ -47,8 +47,8 @@ impl BothSides {
         }
     }
 
-    /// One more frame comes, which isn't damaged: what is found of it. Fails only out of memory, and
-    /// only where the frame has to wait; then nothing has changed.
+    /// One more frame comes, which isn't damaged: what is found of it. Fails only out of memory,
+    /// and only where the frame has to wait; then nothing has changed.
     pub fn hear(
         &mut self,
         terms: &SourceTerms,

@@ -5,9 +5,9 @@ ghost use Rattle.std.specs.Prelude.{option_to_list};
 ghost use Rattle.afdx_config.specs.Numbers.{next_number as number_behind};
 ghost use Rattle.afdx_lawful.specs.Alone.{number_in, other_number};
 ghost use Rattle.afdx_lawful.specs.Sources.{Came, Source as Terms};
-ghost use Rattle.afdx_lawful.specs.declared.finding.SenderFinding.TheVariants.{Number};
+ghost use Rattle.afdx_lawful.specs.declared.finding.SenderFinding.TheVariants.{Number, Soon, Unlawful};
 
-use crate::finding::Flaw;
+use crate::finding::{Flaw, SenderFinding};
 use crate::limits::SenderLimits;
 use crate::pace::Pace;
 
@@ -31,6 +31,36 @@ impl Alone {
     ghost use Rattle.std.specs.Prelude.{ℕ};
     ghost use Rattle.afdx_lawful.specs.Alone.{is_empty};
     ghost use Rattle.afdx_lawful.specs.Tracks.{told_alone};
+
+    /// What is wrong with the frame of this line by itself.
+    pub fn unlawful(&self, line: u64) -> Option<SenderFinding>
+        ensures { result ≡ option_map (Unlawful line) self.now.flaw }
+    {
+        match self.flaw {
+            Some(flaw) => Some(SenderFinding::Unlawful(line, flaw)),
+            None => None,
+        }
+    }
+
+    /// That another number stands in the place of its own.
+    pub fn other_number(&self, line: u64) -> Option<SenderFinding>
+        ensures { result ≡ option_map (Number line) self.now.number }
+    {
+        match self.number {
+            Some(number) => Some(SenderFinding::Number(line, number)),
+            None => None,
+        }
+    }
+
+    /// That it came too soon.
+    pub fn too_soon(&self, line: u64) -> Option<SenderFinding>
+        ensures { result ≡ option_map (Soon line) self.now.soon }
+    {
+        match self.soon {
+            Some(by) => Some(SenderFinding::Soon(line, by)),
+            None => None,
+        }
+    }
 
     /// Nothing is found.
     pub fn is_quiet(&self) -> bool

@@ -5,6 +5,7 @@ ghost use Rattle.afdx_conform.specs.Levels.{parts};
 ghost use Rattle.afdx_lawful.specs.Ranges.{IsWayInRange, given_ns, most_apart};
 
 use crate::limits::{GREATEST_SKEW, SenderLimits};
+use std::alloc::Global;
 
 /// The longest time that a byte can take over the lines of a way, in ns: 24 lines of 10 Mbit/s.
 const LONGEST_BYTE: u64 = 19_200;
@@ -79,7 +80,31 @@ impl Apart {
     ghost use Rattle.std.specs.Prelude.{length};
     ghost use Rattle.afdx_lawful.specs.Limits.{AreLimits};
     ghost use Rattle.afdx_lawful.specs.Sources.{Came, Source as Terms, apart as apart_of};
-    ghost use Rattle.afdx_lawful.specs.Ways.{IsApart};
+    ghost use Rattle.std.specs.Prelude.{◌<◌, IfNone, IfSome, None, Some, map};
+    ghost use Rattle.afdx_lawful.specs.Ways.{IsApart, way_of};
+
+    /// By so many ns, at most 100,000,000; else none.
+    pub fn given(alloc: Global, ns: u64) -> Option<Apart>
+        ensures given { IfSome result (λ apart. (s : Terms) → s.given ≡ Some ns →
+            IsApart s apart) }
+        ensures none { IfNone result (most_apart < ns) }
+    {
+        if ns > GREATEST_SKEW {
+            return None;
+        }
+        Some(Apart {
+            given: Some(ns),
+            ways: Vec::new(alloc),
+        })
+    }
+
+    /// By what the ways of a link leave, to each of the systems that get it.
+    pub fn left_by(ways: Vec<SystemWay>) -> Apart
+        ensures { (s : Terms) → s.given ≡ None → s.ways ≡ map way_of ways.items →
+            IsApart s result }
+    {
+        Apart { given: None, ways }
+    }
 
     /// The same by a recorder's clock, of a frame of so many bytes.
     pub(crate) fn of(&self, limits: &SenderLimits, bytes: u64) -> u64

@@ -1,9 +1,9 @@
-use Rattle.std.proofs.Common.{List, ◌∷◌, ap, refl, subst, sym, ◌∙◌}
+use Rattle.std.proofs.Common.{◌∷◌, ap, refl, subst, sym, ◌∙◌}
 use Rattle.afdx_lawful.specs.Alone.{is_empty}
 use Rattle.afdx_lawful.specs.Flaws.{whole_of}
 use Rattle.afdx_lawful.specs.Judged.{found_with}
 use Rattle.afdx_lawful.specs.Sources.{on_side}
-use Rattle.afdx_lawful.specs.Partners.{Waiting, other, partner}
+use Rattle.afdx_lawful.specs.Partners.{other}
 use Rattle.afdx_lawful.specs.LastCame.{AreLast}
 use Rattle.afdx_lawful.specs.OneSide.{WaitsToo}
 use Rattle.afdx_lawful.specs.Rings.{waiting_as}

@@ -1,5 +1,4 @@
-use Rattle.std.proofs.Common.{Bool, ap, refl, sym, ◌∙◌, ◌-◌, ℕ}
-use Rattle.std.specs.Prelude.{◌||◌}
+use Rattle.std.proofs.Common.{ap, refl, sym, ◌∙◌, ◌-◌, ℕ}
 use Rattle.afdx_lawful.specs.Flaws.{whole_of}
 use Rattle.afdx_lawful.specs.Partners.{other}
 use Rattle.afdx_lawful.specs.Rings.{waiting_as}

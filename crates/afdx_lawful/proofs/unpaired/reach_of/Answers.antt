@@ -1,4 +1,4 @@
-use Rattle.std.proofs.Common.{◌≤◌, arith, length, ap₂, ◌+◌, ℕ, refl, sym, ◌∙◌}
+use Rattle.std.proofs.Common.{◌≤◌, arith, length, ap₂, ◌+◌, ℕ, sym}
 use Rattle.afdx_lawful.specs.Rings.{waiting_as}
 use Rattle.afdx_lawful.proofs.CopyLemmas.{at_most}
 use Rattle.afdx_lawful.proofs.unpaired.reach_of.Goals as goal

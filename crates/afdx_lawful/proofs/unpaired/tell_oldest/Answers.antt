@@ -1,4 +1,4 @@
-use Rattle.std.proofs.Common.{ap, refl, subst, ◌∙◌, ◌+◌, ℕ}
+use Rattle.std.proofs.Common.{ap, refl, subst, ◌+◌, ℕ}
 use Rattle.afdx_lawful.specs.Courses.{AreHeld, oldest}
 use Rattle.afdx_lawful.specs.Rings.{all_as, waiting_as}
 use Rattle.afdx_lawful.proofs.StandLemmas.{told_stands}

@@ -1,4 +1,4 @@
-use Rattle.std.proofs.Common.{◌∷◌, ap, refl, sym, ◌∙◌}
+use Rattle.std.proofs.Common.{ap, refl, sym, ◌∙◌}
 use Rattle.std.specs.Prelude.{option_map, option_to_list}
 use Rattle.afdx_frame.specs.Parts.{bytes_of}
 use Rattle.afdx_frame.specs.declared.link.Side.TheVariants.{A}

@@ -33,3 +33,8 @@ returns-in-Some-clause-told c s c' h =
             },
           ),
     )) (c.tell.ensures.told s c' h.terms h.sides h.tally)
+
+pub returns-in-None-clause-none : goal.returns-in-None-clause-none
+returns-in-None-clause-none c s c' h =
+    let none = none_next (next_in c.args.self.now.sides) c.in-None.ensures.next in
+    (none_left s c' c.args.self.now.sides h.sides none, h)
