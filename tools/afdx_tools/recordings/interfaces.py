@@ -5,6 +5,7 @@ says what is wrong there."""
 from __future__ import annotations
 
 import struct
+from collections import defaultdict
 from dataclasses import dataclass, field
 from typing import BinaryIO, Callable, NamedTuple
 
@@ -22,7 +23,6 @@ PACKETS = (PACKET, OLD_PACKET, SIMPLE_PACKET)
 LEAST = {INTERFACE: 20, OLD_PACKET: 32, SIMPLE_PACKET: 16, PACKET: 32}  # bytes of a block
 NO_FRAMES = (0x0BAD, 0x4000_0BAD, 9)  # custom blocks and journals, which have numbers too
 NAME = 2  # the option of an interface that is its name
-NO_INTERFACE = bytes(4)  # what stands in the place of its number in a pcap
 OTHERS = b""  # the source of frames beyond those that are told apart
 ORDERS = {b"\x4d\x3c\x2b\x1a": "<", b"\x1a\x2b\x3c\x4d": ">"}
 
@@ -92,19 +92,19 @@ class Pieces:
 
 
 class Heads:
-    """The heads of frames, each with how often it came and the number of the first: the four bytes
-    of the interface's number, then both addresses."""
+    """The heads of frames at each interface, both addresses: each with how often it came and the
+    number of the first."""
 
     def __init__(self) -> None:
-        self.counts: dict[bytes, int] = {}
-        self.firsts: dict[bytes, int] = {}
+        self.counts: dict[int, dict[bytes, int]] = defaultdict(dict)
+        self.firsts: dict[int, dict[bytes, int]] = defaultdict(dict)
 
-    def give(self, interfaces: list[Interface], order: str) -> None:
+    def give(self, interfaces: list[Interface]) -> None:
         """Adds those of AFDX frames to their interfaces, and forgets all."""
-        for head, first in self.firsts.items():
-            if head.startswith(VIRTUAL_LINK, 4):
-                (place,) = struct.unpack_from(order + "I", head)
-                interfaces[place].add(head[10:16], first, self.counts[head])
+        for place, firsts in self.firsts.items():
+            for head, first in firsts.items():
+                if head.startswith(VIRTUAL_LINK):
+                    interfaces[place].add(head[6:12], first, self.counts[place][head])
         self.counts.clear()
         self.firsts.clear()
 
@@ -113,16 +113,17 @@ class Heads:
 
 
 class Records:
-    """A pcap as it is read: the heads of its frames, and the number of the latest."""
+    """A pcap as it is read: its interface, the heads of its frames, and the number of the latest.
+    """
 
     def __init__(self, order: str) -> None:
         self.captured = struct.Struct(order + "8xI").unpack_from
-        self.heads, self.number = Heads(), 0
+        self.interfaces, self.heads, self.number = [Interface(None)], Heads(), 0
 
     def packets(self, pieces: Pieces) -> int:
         """Passes over the frames that are at hand as a whole; the bytes that the next one needs."""
         data, at, end, needed = pieces.bytes, pieces.at, len(pieces.bytes), 16
-        counts, firsts = self.heads.counts, self.heads.firsts
+        counts, firsts = self.heads.counts[0], self.heads.firsts[0]
         while at + 16 <= end:
             (captured,) = self.captured(data, at)
             if at + 16 + captured > end:
@@ -130,26 +131,25 @@ class Records:
                 break
             self.number += 1
             if captured >= 12:
-                head = NO_INTERFACE + data[at + 16 : at + 28]
+                head = data[at + 16 : at + 28]
                 try:
                     counts[head] += 1
                 except KeyError:
                     counts[head], firsts[head] = 1, self.number
             at += 16 + captured
         pieces.at = at
+        self.heads.give(self.interfaces)
         return needed
 
 
 def read_pcap(pieces: Pieces) -> list[Interface]:
     """The one interface of a pcap."""
-    interfaces = [Interface(None)]
     records = Records("<" if pieces.bytes[0] in (0xD4, 0x4D) else ">")
     is_there = pieces.skip(24)
     while is_there:
         needed = records.packets(pieces)
-        records.heads.give(interfaces, "<")
         is_there = needed <= 16 + MOST_CAPTURED and pieces.hold(needed)
-    return interfaces
+    return records.interfaces
 
 
 # ---- pcapng --------------------------------------------------------------------------------------
@@ -174,7 +174,7 @@ class Sections:
         """The order of the bytes of a number."""
         self.order = order
         self.numbers = struct.Struct(order + "II").unpack_from
-        self.lengths = struct.Struct(order + "III8xI").unpack_from
+        self.packet_head = struct.Struct(order + "III8xI4x12s").unpack_from
 
     def describe(self, body: bytes) -> None:
         """An interface, by the body of its block."""
@@ -203,20 +203,19 @@ class Sections:
         data, at, end = pieces.bytes, pieces.at, len(pieces.bytes)
         counts, firsts = self.heads.counts, self.heads.firsts
         while at + 44 <= end:
-            kind, size, place, captured = self.lengths(data, at)
+            kind, size, place, captured, head = self.packet_head(data, at)
             if kind != PACKET or not 12 <= captured <= size - 32 or at + size > end:
                 break
             if place >= self.described:
                 break
             self.number += 1
-            head = data[at + 8 : at + 12] + data[at + 28 : at + 40]
             try:
-                counts[head] += 1
+                counts[place][head] += 1
             except KeyError:
-                counts[head], firsts[head] = 1, self.number
+                counts[place][head], firsts[place][head] = 1, self.number
             at += size
         pieces.at = at
-        self.heads.give(self.interfaces, self.order)
+        self.heads.give(self.interfaces)
 
     def packet(self, data: bytes, at: int, kind: int, size: int) -> bool:
         """A frame, whose block is at that place; false where its interface isn't described."""
@@ -224,7 +223,7 @@ class Sections:
             place, begin = 0, at + 12
             (captured,) = struct.unpack_from(self.order + "I", data, at + 8)
         else:
-            _, _, place, captured = self.lengths(data, at)
+            place, captured = struct.unpack_from(self.order + "I8xI", data, at + 8)
             begin = at + 28
         if kind == OLD_PACKET:
             (place,) = struct.unpack_from(self.order + "H", data, at + 8)
