@@ -230,6 +230,20 @@ dead_machine_tests() {
     rm "$work"/many*.list
 }
 
+# A switch that was recorded as two lists, which are copied to another machine.
+judged_there_test() {
+    local config=$work/machines/config
+    printf 'F 6720 A 3 %s\n' "$(frame_of A 0)" >"$work/machines/hidden/left.list"
+    launch env -C "$work/machines/hidden" "$top/tools/afdx-campaign" --conform base.toml \
+        two.list,left.list --out judged --transfer --sshlogin "1/ssh -F $config one"
+    tell 'a recorded switch is judged on another machine' "$(
+        is_status 0
+        wants_text "$(column_of "$work/machines/hidden/judged/campaign.csv" 1)" conforms verdict
+        wants_text "$(cell_of "$work/machines/hidden/judged/campaign.csv" 1 11)" \
+            "'1/ssh -F $config one'" 'the machine'
+    )"
+}
+
 machine_tests() {
     mkdir -p "$work/machines/hidden" "$work/shared"
     status=0
@@ -265,6 +279,7 @@ machine_tests() {
         is_status 0
         wants_text "$(column_of "$work/machines/hidden/out/campaign.csv" 1)" '3 1' 'frames'
     )"
+    judged_there_test
     dead_machine_tests
     tests/tools/two_hosts.sh down "$work/machines" >>"$work/out" 2>&1
 }

@@ -8,7 +8,7 @@ import unittest
 from afdx_tools.campaign.judging import SPOKEN, Told, remarks_of, told_by
 from afdx_tools.campaign.runs import named_switch
 from afdx_tools.faults import Refused
-from afdx_tools.recordings.taps import Place, Tap, for_switch
+from afdx_tools.recordings.taps import Place, Table, Tap, for_switch
 from afdx_tools.spreadsheets.sheets import Row
 
 LAST = "explained 2 open 0 uncertain 0 left-out 4 unseen 3 idle 1"
@@ -72,6 +72,13 @@ class Switches(unittest.TestCase):
         rows = [("eth1", Place("A", 1, "aft")), ("eth1", own), ("eth2", other), ("eth2", other)]
         kept = for_switch([Tap(row, name, place, "in") for name, place in rows], "fwd")
         self.assertEqual([(tap.name, tap.place) for tap in kept], [("eth1", own), ("eth2", other)])
+
+    def test_a_number_at_another_switch_gives_way_to_a_name(self) -> None:
+        row, own = Row("taps.csv line 2", "interface", {}, {}), Place("A", 1, "fwd")
+        taps = [Tap(row, "#0", Place("A", 2, "aft"), "in"), Tap(row, "eth1", own, "in")]
+        for switch, name in (("fwd", "eth1"), ("aft", "#0"), (None, "#0")):
+            rows = Table(taps, switch).rows_for(0, "eth1")
+            self.assertEqual([tap.name for tap in rows], [name], switch)
 
 
 if __name__ == "__main__":

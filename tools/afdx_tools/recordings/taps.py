@@ -41,6 +41,10 @@ class Tap:
         """Its place and direction, as the table has them."""
         return f"{self.place} {self.direction}" if self.place else self.direction
 
+    def is_of_another(self, switch: str | None) -> bool:
+        """It is at another switch than that one; None stands for all."""
+        return self.place is not None and switch not in (None, self.place.switch)
+
     def is_at(self, side: str | None) -> bool:
         """It can be in a recording of that side; one of no side is of both."""
         return side is None or self.place is None or self.place.side == side
@@ -115,7 +119,7 @@ def for_switch(taps: list[Tap], switch: str) -> list[Tap]:
     """The rows where one of several switches is judged: its own, those of no place, and of other
     switches those of interfaces that none of these names. For each switch may have a recorder of
     its own, and these have interfaces of the same names."""
-    own = [tap for tap in taps if tap.place is None or tap.place.switch == switch]
+    own = [tap for tap in taps if not tap.is_of_another(switch)]
     names = {tap.name for tap in own}
     others = {tap.name: tap for tap in taps if tap.name not in names}
     return own + list(others.values())
@@ -153,18 +157,19 @@ def called(number: int, name: str | None) -> str:
 
 
 class Table:
-    """The rows of a table by the names of their interfaces."""
+    """The rows of a table by the names of their interfaces; where one of several switches is
+    judged, those of others behind its own."""
 
-    def __init__(self, taps: list[Tap]) -> None:
-        self.taps = taps
-        self.named: dict[str, list[Tap]] = {}
+    def __init__(self, taps: list[Tap], switch: str | None = None) -> None:
+        self.parts: tuple[dict[str, list[Tap]], ...] = {}, {}
         for tap in taps:
-            self.named.setdefault(tap.name, []).append(tap)
+            part = self.parts[tap.is_of_another(switch)]
+            part.setdefault(tap.name, []).append(tap)
 
     def rows_for(self, number: int, name: str | None) -> list[Tap]:
         """The rows for an interface: those that have its number, as #0, else those of its name."""
-        numbered = self.named.get(f"#{number}", [])
-        return numbered or ([] if name is None else self.named.get(name, []))
+        found = (part.get(key, []) for part in self.parts for key in (f"#{number}", name or ""))
+        return next(filter(None, found), [])
 
 
 def tap_for(table: Table, recording: Recording, number: int, interface: Interface) -> Tap | str:
@@ -202,7 +207,7 @@ def matched(
     """The row of each interface of a recording, by its number. What has none is noted, and rows
     without an interface, of the switch alone where one of several is judged."""
     rows: dict[int, Tap] = {}
-    table, taken = Table(taps), set()
+    table, taken = Table(taps, switch), set()
     if is_crossed(table, recording):
         side, other = recording.side, "B" if recording.side == "A" else "A"
         why = f"is given as the recording of {side}, and the table has its interfaces on {other}"
@@ -218,7 +223,7 @@ def matched(
         else:
             rows[number] = tap
             taken.add(tap.row.place)
-    own = [tap for tap in taps if tap.place and switch in (None, tap.place.switch)]
+    own = [tap for tap in taps if not tap.is_of_another(switch)]
     for side in "AB":
         note_absent(found, recording, side, own, taken)
     return rows
