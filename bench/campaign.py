@@ -5,9 +5,9 @@
 
 PROGRAM is the built program, crates/afdx/out/afdx where it isn't given. afdx-traffic makes what the
 systems of examples/aircraft.toml send in 12.8 s, of which the program says what came to each switch
-and what left it. That comes N times (15 where it isn't given, which is three minutes of the
-aircraft and 3.2 GB), and each switch has a recording of each network, 16 in all, with a table of
-taps. So a day is some 450 times as much. All are judged with one run at a time, then with C (4).
+and what left it. That comes N times (24 where it isn't given, which is five minutes of the aircraft
+and 5.1 GB), and each switch has a recording of each network, 16 in all, with a table of taps. So a
+day is some 280 times as much. All are judged with one run at a time, then with C (4).
 Both times are printed by the clock, what the runs took of the processor, and the second time as a
 share of the first. Each run has to conform.
 
@@ -34,7 +34,7 @@ CONFIG = os.path.join(TOP, "examples", "aircraft.toml")
 TABLES = [os.path.join(TOP, "examples", f"aircraft_{name}.csv") for name in ("systems", "messages")]
 CABLES = os.path.join(TOP, "examples", "aircraft_cables.csv")
 SECONDS = "12.8"  # a hundred times the longest BAG
-TIMES = 15
+TIMES = 24
 
 
 def tool(name):

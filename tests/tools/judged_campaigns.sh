@@ -40,8 +40,16 @@ whole_aircraft_tests() {
             'all 8 conforms 0 0' 'the sums'
         told_alone "$aircraft" left "$day/all.csv" "$day/all.pcapng" >"$work/wanted"
         same "$work/wanted" "$day/whole/runs/2/stdout"
-        says err 'left: '
-        says err 'and has no AFDX frame (and '
+        says err 'interface 33 (left-A3out) is A left:3 out by '
+        if [[ -s $day/whole/runs/2/stderr ]]; then cat "$day/whole/runs/2/stderr"; fi
+    )"
+    cp "$day/all.csv" "$day/ghost.csv"
+    echo 'ghost,A,left,19,in' >>"$day/ghost.csv"
+    judge_day ghost --taps "$day/ghost.csv" "$aircraft" "$day/all.pcapng"
+    tell 'a table that one recording of all does not agree with: nothing is run' "$(
+        is_status 3
+        says err "ghost isn't in $day/all.pcapng"
+        if [[ -e $day/ghost ]]; then ls "$day/ghost"; fi
     )"
     judge_aircraft sides {left,right,left}={left.A,right.B,left.B}.pcapng
     tell 'recordings that are not there' "$(is_status 4; says out 'No such file')"
@@ -84,6 +92,14 @@ deviating_tests() {
         wants_text "$(column_of "$day/mixed/campaign.csv" 10)" '3 4 0' statuses
         says out '1 without a result'
     )"
+    judge_day mixed --taps "$day/all.csv" "$aircraft" tail="$day/all.pcapng"
+    tell 'one switch of a recording of all' "$(
+        is_status 0
+        says err 'tail: '
+        says err 'and has no AFDX frame (and '
+    )"
+    judge_aircraft mixed cabin="$day/tail.A.pcapng" wing="$day/later.pcapng" \
+        tail="$day/tail.A.pcapng"
     cp "$day/wing.B.pcapng" "$day/later.pcapng"
     judge_aircraft mixed cabin="$day/tail.A.pcapng" wing="$day/later.pcapng" \
         tail="$day/tail.A.pcapng" --resume

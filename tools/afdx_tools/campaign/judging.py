@@ -28,6 +28,7 @@ LAST = re.compile(r"(conforms|undecided|deviates)(?: (\d+))? (explained \d+(?: [
 # how a fault begins where the program, or the tool that reads a table of taps, was called
 SPOKEN = re.compile(r"(config|words|list|recording|device|memory|error:|afdx-taps:)( |$)")
 OF_TAPS = "afdx-taps: "
+UNKNOWN = "-"  # in the place of words of places that the run itself has to find
 FEW = 20  # findings of a run in a test case
 TAIL = 4096  # bytes in which the last line is
 
@@ -101,16 +102,18 @@ class Judgements(Kind):
 
     def words(self, run: Run) -> list[str]:
         switch = [f"--switch={run.switch}"] if run.switch else []
-        return [*switch, *self.options, *self.taps]
+        places = [" ".join(run.places) or UNKNOWN] if self.taps else []
+        return [*switch, *self.options, *places, *self.taps]
 
     def command(self) -> str:
-        past = FIRST + self.count() - len(self.taps)
+        past = FIRST + self.count() - (len(self.taps) + 1 if self.taps else 0)
         words = " ".join(f"{{{place}}}" for place in range(FIRST, past))
         places = ""
         if self.taps:
             switch = f"{{{FIRST}}} " if self.runs[0].switch else ""
-            table = f'-- "$config" {{{past + 1}}} "$list"'
-            places = f"places=$(env {{5}} {{{past}}} --conform {switch}{table}) || exit; "
+            table = f'-- "$config" {{{past + 2}}} "$list"'
+            asked = f"places=$(env {{5}} {{{past + 1}}} --conform {switch}{table}) || exit"
+            places = f'places={{{past}}}; if [ "$places" = {UNKNOWN} ]; then {asked}; fi; '
         return f'{places}{{6}} conform $places {words} -- "$config" "$@"'
 
     def outcome_of(self, attempt: Attempt, machine: str) -> Outcome:

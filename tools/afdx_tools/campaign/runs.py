@@ -1,23 +1,30 @@
 """The runs of a campaign: which files each is over, and which of several switches it judges."""
 from __future__ import annotations
 
+import argparse
 import os
-from typing import NamedTuple, Sequence
+from typing import Callable, NamedTuple, Sequence
 
 from afdx_tools.config import Config
 from afdx_tools.faults import Refused, shown
+from afdx_tools.inputs import as_file
+from afdx_tools.progress import Progress
 from afdx_tools.recordings.options import files_of
-from afdx_tools.recordings.tapped import want_switch, want_switches
+from afdx_tools.recordings.tapped import OF_ALL_SWITCHES, found_by, want_switch, want_switches
 from afdx_tools.recordings.taps import read_rows
+
+Say = Callable[[str], None]
 
 
 class Run(NamedTuple):
     """A run: its files as they were named, and one by one: a list or a recording, or two, those of
-    both networks or what came and what left; and which of several switches is judged, if one is."""
+    both networks or what came and what left; which of several switches is judged, if one is; and
+    its words of places, where they are known before it."""
 
     name: str
     files: tuple[str, ...]
     switch: str = ""
+    places: tuple[str, ...] = ()
 
     @property
     def size(self) -> int:
@@ -50,22 +57,38 @@ def named_switch(word: str, names: Sequence[str]) -> tuple[str, str]:
     return name, files
 
 
-def judgements(
-    config: Config, words: Sequence[str], switch: str | None, taps: str | None
-) -> list[Run]:
+def places_in(args: argparse.Namespace, path: str, say: Say) -> dict[str, tuple[str, ...]]:
+    """The words of places of each switch in a recording of all that the table has, which is looked
+    at once; none where there is no such file. Failed where it doesn't agree with the table."""
+    found: dict[str, tuple[str, ...]] = {}
+    if os.path.isfile(path):
+        config, progress = as_file(args.config), Progress("afdx-campaign")
+        all_found = found_by(args.taps, config, [path], [path], progress, OF_ALL_SWITCHES)
+        for remark in all_found.remarks:
+            say(shown(remark))
+        for switch, _, word in (each.partition(" ") for each in all_found.words):
+            found[switch] = (*found.get(switch, ()), word)
+    return found
+
+
+def judgements(config: Config, args: argparse.Namespace, say: Say) -> list[Run]:
     """A run for each word of files; of several switches for each that is judged there: the one that
     the word or the option names, else all that the table of taps has."""
-    if not config.names or switch is not None:
+    switch, names = args.switch, config.names
+    if not names or switch is not None:
         want_switch(config, switch)
-        if config.names and any(named_switch(word, config.names)[0] for word in words):
+        if names and any(named_switch(word, names)[0] for word in args.lists):
             raise Refused("--switch and NAME= say the same: give one of them")
-        return [Run(word, files_of(word), switch or "") for word in words]
-    tapped = [] if taps is None else tapped_switches(config, taps)
+        return [Run(word, files_of(word), switch or "") for word in args.lists]
+    tapped = [] if args.taps is None else tapped_switches(config, args.taps)
     runs = []
-    for word in words:
-        name, files = named_switch(word, config.names)
+    for word in args.lists:
+        name, file = named_switch(word, names)
         if not name and not tapped:
             what = "NAME=RECORDING, --switch or --taps says it"
             raise Refused(f"{shown(word)}: which of several switches is judged? {what}")
-        runs += [Run(files, files_of(files), each) for each in ([name] if name else tapped)]
+        files = files_of(file)
+        places = {} if name or len(files) > 1 else places_in(args, file, say)
+        judged = [name] if name else tapped
+        runs += [Run(file, files, each, places.get(each, ())) for each in judged]
     return runs

@@ -252,7 +252,7 @@ def kind_of(args: argparse.Namespace) -> Kind:
     """What the runs are; Refused where a word is of the other kind."""
     if args.conform:
         config = read_config(as_file(args.config))
-        return Judgements(args, judgements(config, args.lists, args.switch, args.taps))
+        return Judgements(args, judgements(config, args, say))
     refuse_conform_options(args)
     if args.begin is not None:
         raise Refused("--from is an option with --conform only")

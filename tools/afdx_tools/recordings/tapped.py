@@ -214,16 +214,21 @@ def want_switch(config: Config, switch: str | None) -> None:
         raise Refused(f"--switch {shown(switch) if switch else 'is missing'}: {what}")
 
 
+def conform_word(tap: Tap, number: int) -> str:
+    """The word of `conform` for an interface; none where it doesn't count."""
+    if tap.place is None:
+        return ""
+    name = "interface" if tap.direction == IN else "left"
+    return f"--{name}={number}={tap.place.side}:{tap.place.port}"
+
+
 def asked_for(config: Config, switch: str | None) -> Asked:
     """The words of `conform`, of one switch of several: there cables bring arrivals, too, what
     leaves counts, and an interface without a word is left out."""
     want_switch(config, switch)
 
     def word(_: Claims, tap: Tap, number: int) -> str:
-        if tap.place is None or tap.place.switch != (switch or ""):
-            return ""
-        name = "interface" if tap.direction == IN else "left"
-        return f"--{name}={number}={tap.place.side}:{tap.place.port}"
+        return "" if tap.is_of_another(switch) else conform_word(tap, number)
 
     return Asked(word, switch)
 
@@ -309,6 +314,14 @@ def checked(
         note_frames(found, claims, tapped)
     note_words(found, claims, rows, asked)
     return found
+
+
+def word_of_any(_: Claims, tap: Tap, number: int) -> str:
+    """The word of `conform` for an interface, behind the name of its switch."""
+    return f"{tap.place.switch} {conform_word(tap, number)}" if tap.place else ""
+
+
+OF_ALL_SWITCHES = Asked(word_of_any)
 
 
 def found_by(
