@@ -456,6 +456,12 @@ fn new_judge(alloc: Global, row: &Row) -> Result<Option<Judge>, AllocError> {
     }))
 }
 
+/// Whether these lines were told, of so many frames, and none is left.
+fn is_all(judge: &Judge, found: &[Line], counts: SourceCounts) -> bool {
+    let is_counted = judge.source.counts() == counts && judge.source.held() == 0;
+    is_counted && judge.found.as_slice() == found
+}
+
 /// Whether what this source tells and counts of the row is what it says.
 fn is_told(alloc: Global, judge: &mut Judge, row: &Row) -> Result<bool, AllocError> {
     let mut line = 0_u64;
@@ -465,8 +471,7 @@ fn is_told(alloc: Global, judge: &mut Judge, row: &Row) -> Result<bool, AllocErr
     }
     tell_before(judge, u64::MAX, Some(row.until))?;
     let (sent, cut) = row.counts;
-    let counts = judge.source.counts() == SourceCounts { sent, cut };
-    Ok(counts && judge.source.held() == 0 && judge.found.as_slice() == row.found)
+    Ok(is_all(judge, row.found, SourceCounts { sent, cut }))
 }
 
 /// Whether what is told and counted of the row is what it says.
