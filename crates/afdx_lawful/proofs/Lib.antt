@@ -20,3 +20,4 @@ pub mod CutLemmas
 pub mod StandLemmas
 pub mod CourseLemmas
 pub mod SenderLemmas
+pub mod OrderLemmas

@@ -36,7 +36,8 @@ abbrev pub InTurn : ℕ → ℕ → List Waiting → Type 0
 InTurn from to [] = Unit {0}
 InTurn from to (y ∷ ys) = (from ≤ y.frame.time) × (y.frame.time ≤ to) × InTurn y.frame.time to ys
 
-from_sooner : (from low-time to : ℕ) (ys : List Waiting) → low-time ≤ from → InTurn from to ys → InTurn low-time to ys
+pub from_sooner : (from low-time to : ℕ) (ys : List Waiting) → low-time ≤ from → InTurn from to ys →
+    InTurn low-time to ys
 from_sooner from low-time to [] low h = h
 from_sooner from low-time to (y ∷ ys) low h = (omega (arith, low, h.0), h.1, h.2)
 
@@ -81,7 +82,8 @@ in_turn s side (x ∷ past) end h =
     by true t = one (list_any (may_pair s x) (waiting s (other side) past)) t
     by false t = without_turn (may_pair s x) 0 x.time (waiting s side past) t
 
-turn_of : (s : Source) (side : Side) (xs : List Came) (end : ℕ) → ComeUpTo end xs → InTurn 0 end (waiting_of s side xs)
+pub turn_of : (s : Source) (side : Side) (xs : List Came) (end : ℕ) → ComeUpTo end xs →
+    InTurn 0 end (waiting_of s side xs)
 turn_of s side xs end up = by s.is_paired (in_turn s side (whole_of xs) end (up_filtered is_whole end xs up))
   where
     by : (b : Bool) → InTurn 0 end (waiting s side (whole_of xs)) →

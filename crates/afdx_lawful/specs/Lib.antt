@@ -21,3 +21,4 @@ pub mod LastCame
 pub mod Tallies
 pub mod Unpaired
 pub mod Sides
+pub mod Order

@@ -2,6 +2,7 @@
 
 ghost use Rattle.afdx_lawful.specs.Accepted.{LawfulIsAccepted};
 ghost use Rattle.afdx_lawful.specs.Nearness.{NearnessIsNeeded};
+ghost use Rattle.afdx_lawful.specs.Order.{ToldInOrder};
 ghost use Rattle.afdx_lawful.specs.Right.{BuiltIsLawful, RightIsNotAccused, RightIsSilent};
 ghost use Rattle.afdx_lawful.specs.TwoNetworks.{BuiltIsLawfulTwice};
 ghost use Rattle.afdx_lawful.specs.Worked.{WorkedRows};
@@ -37,4 +38,9 @@ pub fn built_is_lawful_twice()
 /// twice.
 pub fn nearness_is_needed()
     ensures { NearnessIsNeeded }
+{}
+
+/// Frames that waited for their copies in vain are told by time.
+pub fn told_in_order()
+    ensures { ToldInOrder }
 {}

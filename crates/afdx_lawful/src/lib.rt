@@ -1,7 +1,8 @@
-//! Whether a recorded system sent as it may: laws over definitions, and what is
-//! found of a frame by what came before it.
+//! Whether a recorded system sent as it may: laws over definitions, and a source that is judged
+//! while its frames come.
 //!
-//! A source is one link, and the system that sends it, on both networks.
+//! A source is one link, and the system that sends it, on both networks. Its tests are in
+//! `afdx_test_parts`.
 #![tactic(auto)]
 
 mod copies;

@@ -21,6 +21,8 @@ mod explain;
 #[cfg(test)]
 mod frame;
 #[cfg(test)]
+mod lawful;
+#[cfg(test)]
 mod lists;
 #[cfg(test)]
 mod police;
