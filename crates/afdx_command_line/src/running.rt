@@ -13,13 +13,13 @@ use afdx_command_words::{
 };
 use afdx_frame::BySide;
 use afdx_replay::{
-    CommandedRule, Ended, InputEnded, ListEnded, Output, PairOptions, Peeked, Placing,
-    RecordingOptions, ReplaySettings, Sink, SitedInput, Watched, finish, list_and_count,
-    list_pair_and_count, police_input, replay_input, send_and_count,
+    CommandedRule, Ended, InputEnded, ListEnded, NumberLine, Output, Peeked, Placing,
+    ReplaySettings, RunInput, Sink, SitedInput, Watched, finish, list_and_count, police_input,
+    replay_input, send_and_count,
 };
 use afdx_text::WholeLines;
 use clap::ArgMatches;
-use std::io::{IsTerminal, Read, Stderr, Write};
+use std::io::{IsTerminal, Stderr, Write};
 
 const OUTPUT_BUFFER: usize = 65_536;
 
@@ -140,47 +140,6 @@ fn early_lines(rt: &HostRuntime, are_asked: bool) -> Option<Watched<WholeLines<S
     }
 }
 
-/// What `list` takes: a recording, or two that are read at once.
-trait Recordings<P: Placing>: SitedInput<P> {
-    /// Writes what they say as a list.
-    fn list<O: Sink, E: Write>(
-        &mut self,
-        rt: &HostRuntime,
-        options: P,
-        config: &[u8],
-        lines: &mut O,
-        faults: &mut Watched<E>,
-    ) -> ListEnded
-        requires new { Self.IsNew self.old }
-        requires sound_output { O.failed lines.old ≡ false };
-}
-
-impl<R: Read> Recordings<RecordingOptions> for Watched<Peeked<R>> {
-    fn list<O: Sink, E: Write>(
-        &mut self,
-        rt: &HostRuntime,
-        options: RecordingOptions,
-        config: &[u8],
-        lines: &mut O,
-        faults: &mut Watched<E>,
-    ) -> ListEnded {
-        list_and_count(rt.alloc(), options, config, self, lines, faults)
-    }
-}
-
-impl<R: Read> Recordings<PairOptions> for BySide<Watched<R>> {
-    fn list<O: Sink, E: Write>(
-        &mut self,
-        rt: &HostRuntime,
-        options: PairOptions,
-        config: &[u8],
-        lines: &mut O,
-        faults: &mut Watched<E>,
-    ) -> ListEnded {
-        list_pair_and_count(rt.alloc(), options, config, self, lines, faults)
-    }
-}
-
 /// How a run over recordings ended that `list` made.
 fn ended_of(listed: ListEnded) -> InputEnded {
     InputEnded {
@@ -193,7 +152,7 @@ fn ended_of(listed: ListEnded) -> InputEnded {
 }
 
 /// Makes the run over what an input gives.
-fn run_over<P: Placing + Drop, A: Recordings<P>, O: Sink, E: Write>(
+fn run_over<P: Placing + Drop, A: SitedInput<P> + RunInput<P, NumberLine>, O: Sink, E: Write>(
     rt: &HostRuntime,
     run: &Run<'_>,
     options: P,
@@ -201,7 +160,7 @@ fn run_over<P: Placing + Drop, A: Recordings<P>, O: Sink, E: Write>(
     lines: &mut O,
     faults: &mut Watched<E>,
 ) -> InputEnded
-    requires new { A.IsNew input.old }
+    requires new { A.RunInput-1.IsNew input.old × A.RunInput-2.IsNew input.old }
     requires sound_output { O.failed lines.old ≡ false }
 {
     match run {
@@ -217,7 +176,9 @@ fn run_over<P: Placing + Drop, A: Recordings<P>, O: Sink, E: Write>(
             let ended = replay_input(rt.alloc(), settings, input, lines, faults);
             ended.0
         }
-        Run::List { config } => ended_of(input.list(rt, options, config, lines, faults)),
+        Run::List { config } => {
+            ended_of(list_and_count(rt.alloc(), options, config, input, lines, faults))
+        }
     }
 }
 

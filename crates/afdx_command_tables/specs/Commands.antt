@@ -2,7 +2,6 @@
 use Rattle.std.specs.Prelude.{ℕ, ◌≡◌, ◌||◌, Bool, List, ◌++◌, Option, Result, Ok, Err, OnOk, IfErr}
 use Rattle.std.specs.Prelude.{◌⊎◌, true, false, codes, decimal}
 use Rattle.std.specs.Result.{result_ok}
-use Rattle.afdx_frame.specs.declared.by_side.BySide.{BySide}
 use Rattle.afdx_input_lines.specs.declared.fault.RunFault.{RunFault}
 use Rattle.afdx_input_lines.specs.declared.watched.Watched.{Watched}
 use Rattle.afdx_input_lines.specs.Watching.{has_ended, has_failed}
@@ -54,14 +53,6 @@ abbrev pub EndsAs : {R E : Type 0} → (E → Option (List ℕ)) → (input : Wa
 EndsAs error_bytes input output_failed old_errors new_errors ended answer =
     EndsWith error_bytes (has_ended input ≡ true) (has_failed input) output_failed
     old_errors new_errors ended answer
-
--- both of two inputs came to their ends
-abbrev pub have_ended : {R : Type 0} → BySide (Watched R) → Type 0
-have_ended inputs = (has_ended inputs.a ≡ true) × (has_ended inputs.b ≡ true)
-
--- the device of one of two inputs failed
-abbrev pub one_has_failed : {R : Type 0} → BySide (Watched R) → Bool
-one_has_failed inputs = has_failed inputs.a || has_failed inputs.b
 
 -- a word, a number, and what follows
 abbrev pub counted : (word : List ℕ) → ℕ → (rest : List ℕ) → List ℕ

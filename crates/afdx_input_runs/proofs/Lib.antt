@@ -20,3 +20,4 @@ pub mod SeeingLemmas
 pub mod SeenRunLemmas
 pub mod SeenTookLemmas
 pub mod SeenOrderLemmas
+pub mod NumbersLemmas

@@ -22,7 +22,7 @@ use Rattle.afdx_input_sources.specs.Taking.{Taken, AreCutOff, taken_of_bytes}
 use Rattle.afdx_input_sources.specs.declared.becoming.RecordingOptions.{RecordingOptions}
 use Rattle.afdx_input_sources.specs.declared.pair_options.PairOptions.{PairOptions}
 use Rattle.afdx_input_runs.specs.InputRun.{is_read_recorded, IsAskedFew}
-use Rattle.afdx_input_runs.specs.RecordingRun.{AreCutOffInPair, IsAskedOnce, taken_of_pair}
+use Rattle.afdx_input_runs.specs.RecordingRun.{AreCutOffInPair, IsAskedOnceFor, taken_of_pair}
 use Rattle.afdx_input_runs.specs.TakenRun.{IsOver, StopsTaken}
 use Rattle.afdx_input_runs.specs.declared.input_run.InputCount.{InputCount}
 use Rattle.afdx_input_runs.specs.declared.input_run.InputCount.TheVariants as count
@@ -97,10 +97,7 @@ module _ {R : Type 0} (remaining : R → Option (List ℕ)) where
 
   abbrev pub IsAskedForEach : PairOptions → (first last : BySide (Watched R)) → Type 0
   IsAskedForEach options first last =
-      IsAskedOnce (remaining (device_of first.a)) (remaining (device_of last.a))
-      (calls_of first.a) (calls_of last.a)
-      × IsAskedOnce (remaining (device_of first.b)) (remaining (device_of last.b))
-      (calls_of first.b) (calls_of last.b)
+      IsAskedOnceFor remaining first.a last.a × IsAskedOnceFor remaining first.b last.b
 
 -- ---- nothing was asked yet
 

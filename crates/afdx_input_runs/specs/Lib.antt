@@ -14,3 +14,4 @@ pub mod SeenLines
 pub mod SeeingSource
 pub mod SeenRun
 pub mod SeenFrames
+pub mod Numbers

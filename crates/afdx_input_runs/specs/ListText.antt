@@ -1,5 +1,5 @@
 -- The text of the frame list that says the same as a recording.
-use Rattle.std.specs.Prelude.{ℕ, List, [], ◌∷◌, ◌++◌, Option, Result, slice_get}
+use Rattle.std.specs.Prelude.{ℕ, List, [], ◌∷◌, ◌++◌, Result, slice_get}
 use Rattle.std.specs.Option.{option_map_or}
 use Rattle.afdx_config.specs.Switches.{NamedRows}
 use Rattle.afdx_config.specs.declared.describing.Described.{Described}
@@ -12,11 +12,8 @@ use Rattle.afdx_text.specs.OutLines.{frame_line, place_text, remark_line}
 use Rattle.afdx_input_sources.specs.declared.number_line.NumberLine.{NumberLine}
 use Rattle.afdx_input_sources.specs.declared.number_line.NumberLine.TheVariants.{Arrival, Skipped}
 use Rattle.afdx_input_sources.specs.declared.counts.Tally.{Tally}
-use Rattle.afdx_input_sources.specs.Becoming.{Options}
-use Rattle.afdx_input_sources.specs.Claims.{Ports}
 use Rattle.afdx_input_sources.specs.NumberLines.{Lines}
-use Rattle.afdx_input_sources.specs.Taking.{Taken, AreCutOff, taken_of_bytes}
-use Rattle.afdx_input_runs.specs.TakenRun.{TakenAnswers}
+use Rattle.afdx_input_runs.specs.Arrivals.{TookAndTold}
 use Rattle.afdx_input_sources.specs.Words.{skipped_word}
 
 -- the name of the switch of a number
@@ -48,20 +45,15 @@ module _ (d : Described) where
   abbrev pub WritesSomeLines : Bytes → Bytes → List (Item NumberLine) → Type 0
   WritesSomeLines old new past = AppendsFront old new (list_text past)
 
--- ---- what a run answers that writes the lines of a recording, or of two, of these bytes
+-- ---- what a run answers that writes the lines of a recording, or of two
 
 abbrev pub lines_themselves : Lines → Lines
 lines_themselves lines = lines
 
--- of the whole `whole`; `AreCut` says what was read until a read failed
-abbrev pub ListsTaken : Described → (whole : Taken) → (AreCut : Lines → Type 0) →
+-- With this answer it has taken some lines. The output, which held `old`, now holds them after it;
+-- after a failed write, or want of memory, it holds them or a beginning of them.
+abbrev pub Lists : Described → (takes : Lines → Result Tally RunFault → Type 0) →
     (old new : Bytes) → Result Tally RunFault → Type 0
-ListsTaken d whole AreCut old new result =
-    TakenAnswers whole AreCut lines_themselves (WritesLines d old new) (WritesLines d old new)
-    (WritesSomeLines d old new) result
-
-abbrev pub ListingAnswers : Described → Options → Ports → List ℕ → Option (List ℕ) →
-    (old new : Bytes) → Result Tally RunFault → Type 0
-ListingAnswers d options ports bytes rest old new result =
-    ListsTaken d (taken_of_bytes options ports bytes) (AreCutOff options ports bytes rest) old new
-    result
+Lists d takes old new answer =
+    TookAndTold takes answer (WritesLines d old new) (WritesLines d old new)
+    (WritesSomeLines d old new)

@@ -1,7 +1,7 @@
 -- What a run over a recording, or over two, answers, whatever machine tells it.
 use Rattle.std.specs.Prelude.{ℕ, ◌≤◌, ◌+◌, ⊤, List, length, Option, Some, Result}
 use Rattle.afdx_frame.specs.declared.by_side.BySide.{BySide}
-use Rattle.afdx_input_lines.specs.Watching.{device_of, has_failed}
+use Rattle.afdx_input_lines.specs.Watching.{calls_of, device_of, has_failed}
 use Rattle.afdx_input_lines.specs.declared.watched.Watched.{Watched}
 use Rattle.afdx_input_lines.specs.declared.frame_line.Heading.{Heading}
 use Rattle.afdx_input_lines.specs.declared.fault.RunFault.{RunFault}
@@ -22,6 +22,12 @@ use Rattle.afdx_input_runs.specs.TakenRun.{TakenAnswers}
 abbrev pub IsAskedOnce : (left rest : Option (List ℕ)) → (old new : ℕ) → Type 0
 IsAskedOnce (Some left) (Some rest) old new = new + length rest ≤ old + length left + 1
 IsAskedOnce _ _ old new = ⊤
+
+-- so an input was, from the first to the last
+abbrev pub IsAskedOnceFor : {R : Type 0} → (R → Option (List ℕ)) → (first last : Watched R) → Type 0
+IsAskedOnceFor remaining first last =
+    IsAskedOnce (remaining (device_of first)) (remaining (device_of last))
+    (calls_of first) (calls_of last)
 
 -- what a run answers that is given a recording of these bytes, after which the input has `rest`
 abbrev pub RecordingAnswers : Options → Ports → (done told begins : List (Item Heading) → Type 0) →

@@ -27,7 +27,7 @@ use Rattle.afdx_input_sources.specs.declared.becoming.RecordingOptions.{Recordin
 use Rattle.afdx_input_sources.specs.declared.counts.Tally.{Tally}
 use Rattle.afdx_input_runs.specs.Arrivals.{IsSound}
 use Rattle.afdx_input_runs.specs.Joining.{Coming, Frame, joined}
-use Rattle.afdx_input_runs.specs.RecordingRun.{IsAskedOnce}
+use Rattle.afdx_input_runs.specs.RecordingRun.{IsAskedOnceFor}
 use Rattle.afdx_input_runs.specs.SeenLines.{frames_in, frames_listed}
 use Rattle.afdx_input_runs.specs.SeenRun.{AreCutOffByRole, tallies_by_role, taken_by_role}
 use Rattle.afdx_input_runs.specs.TakenRun.{HasNoFault}
@@ -118,14 +118,10 @@ module _ {R : Type 0} (remaining : R → Option (List ℕ)) where
       (calls_of last.came ≤ calls_of first.came + most_reads)
       × (calls_of last.left ≤ calls_of first.left + most_reads)
 
-  abbrev pub IsAskedForFrames : (first last : Watched R) → Type 0
-  IsAskedForFrames first last =
-      IsAskedOnce (remaining (device_of first)) (remaining (device_of last))
-      (calls_of first) (calls_of last)
-
   abbrev pub IsAskedForRoles : (first last : ByRole (Watched R)) → Type 0
   IsAskedForRoles first last =
-      IsAskedForFrames first.came last.came × IsAskedForFrames first.left last.left
+      IsAskedOnceFor remaining first.came last.came
+      × IsAskedOnceFor remaining first.left last.left
 
 -- ---- nothing was asked yet
 

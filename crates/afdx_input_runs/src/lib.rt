@@ -8,6 +8,7 @@ mod input_run;
 mod inputs;
 pub mod laws;
 mod listing;
+mod numbers;
 mod over;
 mod read_pair;
 mod reading;
@@ -22,7 +23,7 @@ mod two_lists_run;
 
 pub use input_run::{InputCount, run_input};
 pub use inputs::{RunHead, RunInput};
-pub use listing::{list_pair, list_recording};
+pub use listing::list_numbers;
 pub use over::Input;
 pub use reading::Reading;
 pub use recording_run::{run_pair, run_recording};

@@ -1,27 +1,19 @@
-//! A recording is written as the frame list that says the same.
+//! Recordings are written as the frame list that says the same.
 
-ghost use Rattle.std.specs.Prelude.{◌≡◌, ◌||◌, List, ℕ, OnOk, OnErr, IfSome, true, false};
+ghost use Rattle.std.specs.Prelude.{◌≡◌, List, ℕ, OnOk, OnErr, IfSome, false};
 ghost use Rattle.std.specs.Io.KnownBytes.{Appends};
 ghost use Rattle.afdx_input_lines.specs.Calls.{AppendsFront, is_failed_read, is_failed_write};
-ghost use Rattle.afdx_input_lines.specs.Watching.{calls_of, device_of, has_ended, has_failed};
 ghost use Rattle.afdx_text.specs.Sinks.{SinkKept};
-ghost use Rattle.afdx_input_sources.specs.Becoming.{options_of};
-ghost use Rattle.afdx_input_sources.specs.Claims.{ports_of, ports_unsaid};
+ghost use Rattle.afdx_input_sources.specs.Claims.{ports_in};
 ghost use Rattle.afdx_input_runs.specs.ListText as text;
-ghost use Rattle.afdx_input_runs.specs.ListText.{ListingAnswers, ListsTaken};
-ghost use Rattle.afdx_input_runs.specs.RecordingRun.{AreCutOffInPair, IfBothKnown, IsAskedOnce, taken_of_pair};
+ghost use Rattle.afdx_input_runs.specs.ListText.{Lists};
 
-use crate::over::run_over;
-use crate::read_pair::{read_one, read_pair};
+use crate::inputs::RunInput;
 use afdx_config::{Described, SwitchId};
-use afdx_frame::BySide;
-use afdx_input_lines::{RunFault, Watched};
-use afdx_input_sources::{
-    Machine, NumberLine, PairOptions, RecordingOptions, SystemPorts, Tally, UnsaidPort,
-};
+use afdx_input_lines::RunFault;
+use afdx_input_sources::{Machine, NumberLine, Tally, UnsaidPort};
 use afdx_text::{OutLine, Sink, Site};
 use std::alloc::Global;
-use std::io::Read;
 
 /// The name of the switch at this place of a configuration; empty where there is one on a side.
 #[tactic(auto, unfolding(crate::specs::ListText::switch_name))]
@@ -120,78 +112,37 @@ impl Machine<NumberLine> for Lister<'_> {
     }
 }
 
-/// Writes a recording as the frame list that says the same: a line for each number, that of its
-/// arrival where it is taken, or a remark, `#` with the word of the reason and the number, where it
-/// is skipped as soon as it is read. Of a configuration of several switches each line of an arrival
-/// has the name of its switch. Counts what is no arrival.
+/// Writes the numbers of an input, a recording or two that are read at once, as the frame list that
+/// says the same: a line for each, that of its arrival where it is taken, or a remark, `#` with the
+/// word of the reason and the number, where it is skipped as soon as it is read. Of two recordings
+/// the arrivals stand in the order in which `run_pair` takes them, and each number is that in its
+/// own recording. Where no option says at which port a frame came in, it is that of the system of
+/// the configuration that its source address names. Of a configuration of several switches each
+/// line of an arrival has the name of its switch. Counts what is no arrival.
 ///
-/// Each line is handed to `output` before the next frame is read. The first fault ends it; the
-/// lines of the numbers before it stand written, but for arrivals that are held where a device or
-/// memory fails. `RunFault::Read` and `RunFault::Write` come
-/// exactly where the input's or the output's device failed; neither is tried again.
-pub fn list_recording<R: Read, O: Sink>(
+/// Each line is handed to `output` before the next frame is read. The first fault, as it is found,
+/// ends it; the lines of the numbers before it stand written, but for arrivals that are held where
+/// a device or memory fails. `RunFault::Read` and `RunFault::Write` come exactly where the device
+/// of an input, or the output's, failed; none is tried again.
+pub fn list_numbers<P: Drop, A: RunInput<P, NumberLine>, O: Sink>(
     alloc: Global,
+    options: P,
     described: &Described,
-    options: RecordingOptions,
-    ports: SystemPorts,
-    input: &mut Watched<R>,
+    input: &mut A,
     output: &mut O,
 ) -> Result<Tally, RunFault>
-    requires sound_input { has_failed input.old ≡ false }
-    requires unended { has_ended input.old ≡ false }
+    requires new { A.IsNew input.old }
     requires sound_output { O.failed output.old ≡ false }
-    ensures ended { OnOk result (has_ended input.new ≡ true) }
-    ensures read { has_failed input.new ≡ is_failed_read result }
+    ensures ended { OnOk result (A.ended input.new) }
+    ensures read { A.failed input.new ≡ is_failed_read result }
     ensures write { O.failed output.new ≡ is_failed_write result }
-    ensures calls { IsAskedOnce (R.remaining (device_of input.old))
-        (R.remaining (device_of input.new)) (calls_of input.old) (calls_of input.new) }
+    ensures calls { A.IsAskedFew options input.old input.new }
 
-    // Where the input's bytes are known: what is answered and written for the recording that they
-    // are.
-    ensures answer { IfSome (R.remaining (device_of input.old)) (λ bytes.
-        ListingAnswers described.now (options_of options) (ports_of ports) bytes
-        (R.remaining (device_of input.new)) (O.written output.old) (O.written output.new) result) }
-{
-    let mut lines = read_one(alloc, options, ports)?;
-    run_over(&mut lines, &mut Lister { described }, input, output)
-}
-
-/// Writes two recordings that are read at once, of network A and of network B, as the frame list
-/// that says the same, and counts what is no arrival of both. The lines stand in the order in which
-/// `run_pair` takes the arrivals; a number that is skipped stands where it is read, with its number
-/// in its own recording.
-///
-/// Each line is handed to `output` before the next frame is read. The first fault of either, as it
-/// is found, ends it; the lines before it stand written. `RunFault::Read` and `RunFault::Write`
-/// come exactly where the device of an input, or the output's, failed; none is tried again.
-pub fn list_pair<R: Read, O: Sink>(
-    alloc: Global,
-    described: &Described,
-    options: PairOptions,
-    unsaid: UnsaidPort<'_>,
-    inputs: &mut BySide<Watched<R>>,
-    output: &mut O,
-) -> Result<Tally, RunFault>
-    requires sound_a { has_failed inputs.old.a ≡ false }
-    requires sound_b { has_failed inputs.old.b ≡ false }
-    requires unended_a { has_ended inputs.old.a ≡ false }
-    requires unended_b { has_ended inputs.old.b ≡ false }
-    requires sound_output { O.failed output.old ≡ false }
-    ensures ended { OnOk result (has_ended inputs.new.a ≡ true × has_ended inputs.new.b ≡ true) }
-    ensures read { (has_failed inputs.new.a || has_failed inputs.new.b) ≡ is_failed_read result }
-    ensures write { O.failed output.new ≡ is_failed_write result }
-    ensures calls_a { IsAskedOnce (R.remaining (device_of inputs.old.a))
-        (R.remaining (device_of inputs.new.a)) (calls_of inputs.old.a) (calls_of inputs.new.a) }
-    ensures calls_b { IsAskedOnce (R.remaining (device_of inputs.old.b))
-        (R.remaining (device_of inputs.new.b)) (calls_of inputs.old.b) (calls_of inputs.new.b) }
-
-    // Where the bytes of both are known: what is answered and written for the recordings that they
-    // are.
-    ensures answer { IfBothKnown R.remaining inputs.old (λ a b.
-        ListsTaken described.now (taken_of_pair options (ports_unsaid unsaid.entry) a b)
-        (AreCutOffInPair options (ports_unsaid unsaid.entry) R.remaining a b inputs.new)
+    // Where its bytes are known: what is answered and written for the numbers that it takes.
+    ensures lists { IfSome (A.known input.old) (λ bytes. Lists described.now
+        (A.Takes options (ports_in described.now) bytes input.new)
         (O.written output.old) (O.written output.new) result) }
 {
-    let mut lines = read_pair(alloc, options, unsaid)?;
-    run_over(&mut lines, &mut Lister { described }, inputs, output)
+    let unsaid = UnsaidPort::of_sender_in(described);
+    input.tell_all(alloc, options, unsaid, &mut Lister { described }, output)
 }

@@ -117,7 +117,8 @@ impl<R: Read> RunInput<AsLists, Seen> for ByRole<Watched<R>> {
 
 impl<R: Read> RunInput<RecordingOptions, Seen> for Watched<R> {
     ghost use Rattle.afdx_input_runs.specs.Arrivals.{IsSound};
-    ghost use Rattle.afdx_input_runs.specs.SeenFrames.{IsAskedForFrames, TakesRecording};
+    ghost use Rattle.afdx_input_runs.specs.RecordingRun.{IsAskedOnceFor};
+    ghost use Rattle.afdx_input_runs.specs.SeenFrames.{TakesRecording};
 
     ghost IsNew = { IsSound };
 
@@ -125,7 +126,7 @@ impl<R: Read> RunInput<RecordingOptions, Seen> for Watched<R> {
 
     ghost known = { λ input. R.remaining (device_of input) };
 
-    ghost IsAskedFew = { λ options. IsAskedForFrames R.remaining };
+    ghost IsAskedFew = { λ options. IsAskedOnceFor R.remaining };
 
     ghost Takes = { λ options ports bytes rest past.
         TakesRecording R.remaining options ports bytes rest (frames_of past) };

@@ -8,7 +8,6 @@ pub mod LossLemmas
 pub mod AdmittedRunLemmas
 pub mod DefinedLemmas
 mod AccountLemmas
-mod ListingLemmas
 mod ReplaysLemmas
 mod CascadeEventLemmas
 mod CascadeArrivalLemmas

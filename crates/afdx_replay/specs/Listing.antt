@@ -3,30 +3,18 @@
 use Rattle.std.specs.Prelude.{ℕ, ◌≡◌, ◌⊎◌, Bool, List, Option, None, IfSome, Result, Ok, Err, IfErr, OnOk}
 use Rattle.std.specs.Result.{result_ok}
 use Rattle.afdx_config.specs.declared.describing.Described.{Described}
-use Rattle.afdx_frame.specs.declared.by_side.BySide.{BySide}
 use Rattle.afdx_input_lines.specs.Calls.{is_failed_read, is_failed_write}
 use Rattle.afdx_input_lines.specs.Faults.{status_of}
-use Rattle.afdx_input_lines.specs.Watching.{calls_of, device_of}
 use Rattle.afdx_input_lines.specs.declared.fault.RunFault.{RunFault}
 use Rattle.afdx_input_lines.specs.declared.watched.Watched.{Watched}
-use Rattle.afdx_input_runs.specs.ListText.{ListingAnswers, ListsTaken}
-use Rattle.afdx_input_runs.specs.RecordingRun.{AreCutOffInPair, IfBothKnown, IsAskedOnce, taken_of_pair}
-use Rattle.afdx_input_sources.specs.Becoming.{options_of}
-use Rattle.afdx_input_sources.specs.Claims.{ports_in}
-use Rattle.afdx_input_sources.specs.declared.becoming.RecordingOptions.{RecordingOptions}
+use Rattle.afdx_input_runs.specs.ListText.{Lists}
+use Rattle.afdx_input_sources.specs.Claims.{Ports, ports_in}
+use Rattle.afdx_input_sources.specs.NumberLines.{Lines}
 use Rattle.afdx_input_sources.specs.declared.counts.Tally.{Tally}
-use Rattle.afdx_input_sources.specs.declared.pair_options.PairOptions.{PairOptions}
 use Rattle.afdx_text.specs.Telling.{TellsFault}
 use Rattle.afdx_command_tables.specs.Checking.{IsRead}
 use Rattle.afdx_replay.specs.Placed.{ArePlacedIn, IsUnplaced}
 use Rattle.afdx_replay.specs.declared.listing.ListEnded.{ListEnded}
-
--- an input that becomes `rest` is asked at most once for each byte that it gives, and once more
-abbrev pub IsAskedOnceFor : {R : Type 0} → (R → Option (List ℕ)) → (input rest : Watched R) →
-    Type 0
-IsAskedOnceFor remaining input rest =
-    IsAskedOnce (remaining (device_of input)) (remaining (device_of rest))
-    (calls_of input) (calls_of rest)
 
 -- the exit status of what a listing answers
 abbrev pub status_of_listing : Result Tally RunFault → ℕ
@@ -67,21 +55,11 @@ EndsListing Placed Misplaced error_bytes config options old_errors new_errors al
     ⊎ (IsUnplaced Placed options Misplaced error_bytes old_errors new_errors config ended.status
     × (ended.tally ≡ None) × untouched)
 
--- What is answered and written, where the bytes of the input are known, which is then `rest`: the
--- output held `old` and holds `new`.
-module _ {R : Type 0} (remaining : R → Option (List ℕ)) where
-  -- of one recording
-  abbrev pub ListsOne : (input rest : Watched R) → (old new : Option (List ℕ)) →
-      RecordingOptions → Described → Result Tally RunFault → Type 0
-  ListsOne input rest old new options described answer =
-      IfSome (remaining (device_of input)) (λ bytes.
-      ListingAnswers described (options_of options) (ports_in described) bytes
-      (remaining (device_of rest)) old new answer)
-
-  -- of two
-  abbrev pub ListsTwo : (inputs rest : BySide (Watched R)) → (old new : Option (List ℕ)) →
-      PairOptions → Described → Result Tally RunFault → Type 0
-  ListsTwo inputs rest old new options described answer =
-      IfBothKnown remaining inputs (λ a b.
-      ListsTaken described (taken_of_pair options (ports_in described) a b)
-      (AreCutOffInPair options (ports_in described) remaining a b rest) old new answer)
+-- What is answered and written, where the bytes of the input `first` are known, which is then
+-- `last`, by what a run takes of them: the output held `old` and holds `new`.
+abbrev pub ListsBy : {P I B : Type 0} → (known : I → Option B) →
+    (takes : P → Ports → B → I → Lines → Result Tally RunFault → Type 0) → (first last : I) →
+    (old new : Option (List ℕ)) → P → Described → Result Tally RunFault → Type 0
+ListsBy known takes first last old new options described answer =
+    IfSome (known first) (λ bytes.
+    Lists described (takes options (ports_in described) bytes last) old new answer)

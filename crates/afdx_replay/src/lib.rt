@@ -18,13 +18,16 @@ pub use afdx_command_tables::{
 };
 pub use afdx_frame::{BySide, Policing};
 pub use afdx_input_lines::{ListFault, OneOfTwo, Peeked, RecordingFault, RunFault, Watched};
-pub use afdx_input_sources::{Interfaces, PairOptions, Placing, RecordingOptions, Tally, TapPoint};
+pub use afdx_input_runs::RunInput;
+pub use afdx_input_sources::{
+    Interfaces, NumberLine, PairOptions, Placing, RecordingOptions, Tally, TapPoint,
+};
 pub use afdx_text::{Output, Sink};
 pub use cascading::admitted::run_cascade;
 pub use cascading::over::SitedInput;
 pub use cascading::unadmitted::run_cascade_unadmitted;
 pub use input_ending::{InputEnded, InputSummary};
-pub use listing::{ListEnded, list_and_count, list_pair_and_count};
+pub use listing::{ListEnded, list_and_count};
 pub use policing::command::{CommandedRule, police};
 pub use policing::input_command::police_input;
 pub use policing::run::run_police;

@@ -1,6 +1,8 @@
 use Rattle.std.proofs.Common.{refl, inl, inr}
-use Rattle.afdx_input_runs.proofs.RecordingRunLemmas.{unasked}
 use Rattle.afdx_replay.proofs.listing.list_and_count.Goals as goal
+
+pub returns-in-Err-clause-calls : goal.returns-in-Err-clause-calls
+returns-in-Err-clause-calls g c = inl (c.starts.ensures.asked c.args.options c.args.input.now c.requires.new)
 
 pub returns-in-Err-clause-lists : goal.returns-in-Err-clause-lists
 returns-in-Err-clause-lists g c = inr (
@@ -9,17 +11,27 @@ returns-in-Err-clause-lists g c = inr (
   (refl, refl),
 )
 
+pub returns-clause-calls : goal.returns-clause-calls
+returns-clause-calls g c = inr (
+  c.in-Ok.described,
+  record {
+    placed = c.read_placed.new.options;
+    are_placed = c.in-Ok.ensures.placed;
+    so_is = c.list_numbers-answer.ensures.calls;
+  },
+)
+
 pub returns-clause-lists : goal.returns-clause-lists
 returns-clause-lists g c = inl (
-  c.list_in-answer.result,
+  c.list_numbers-answer.result,
   record {
     status_is = c.end_listing.ensures.status;
     tally_is = c.end_listing.ensures.tally;
     told = rw c.in-Ok.ensures.silent at c.end_listing.ensures.told;
     silent = rw c.in-Ok.ensures.silent at c.end_listing.ensures.silent;
-    ended = c.list_in-answer.ensures.ended;
-    read = c.list_in-answer.ensures.read;
-    write = c.list_in-answer.ensures.write;
+    ended = c.list_numbers-answer.ensures.ended;
+    read = c.list_numbers-answer.ensures.read;
+    write = c.list_numbers-answer.ensures.write;
   },
   record {
     described = c.in-Ok.described;
@@ -27,11 +39,7 @@ returns-clause-lists g c = inl (
     so_is = record {
       placed = c.read_placed.new.options;
       are_placed = c.in-Ok.ensures.placed;
-      so_is = c.list_in-answer.ensures.answer;
+      so_is = c.list_numbers-answer.ensures.lists;
     };
   },
 )
-
-pub returns-in-Err-clause-calls : goal.returns-in-Err-clause-calls
-returns-in-Err-clause-calls g c =
-    unasked (g.R.Read.remaining c.args.input.now.inner) c.args.input.now.calls
