@@ -14,7 +14,8 @@ use afdx_input_sources::{Machine, UnsaidPort};
 use afdx_text::Sink;
 use std::alloc::Global;
 
-/// What a run takes, by what is said of each: arrivals, or frames that came and that left.
+/// What a run takes, by what is said of each: arrivals, frames that came and that left, or the
+/// numbers of recordings.
 pub trait RunHead: OfLines {
     /// What it counts of its inputs.
     type Count;
