@@ -1,1 +1,4 @@
 pub mod SiteLemmas
+pub mod TermLemmas
+pub mod FollowedLemmas
+pub mod OrderLemmas

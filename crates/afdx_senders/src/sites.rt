@@ -28,8 +28,8 @@ pub enum SourceOf {
 /// The ports of a switch at which its systems stand, and which of them were recorded.
 #[derive(Debug, Drop)]
 pub struct SenderSites<'a> {
-    tables: &'a Tables,
-    recorded: RecordedPorts,
+    pub(crate) tables: &'a Tables,
+    pub(crate) recorded: RecordedPorts,
     places: LinkPlaces,
 }
 
