@@ -1,18 +1,21 @@
 //! The sources that are followed, by their links' places.
 
-ghost use Rattle.std.specs.Prelude.{◌≡◌, ◌<◌, length, None, Some};
+ghost use Rattle.std.specs.Prelude.{◌≡◌, ◌<◌, Option, length, None, Some};
 ghost use Rattle.std.specs.Prelude.{IfNone, IfOk, IfSome, OnErr, OnOk};
 ghost use Rattle.afdx_lawful.specs.Courses.{AllTold, IsKnownBy, next_told};
 ghost use Rattle.afdx_lawful.specs.Judged.{found_of};
 ghost use Rattle.afdx_lawful.specs.Partners.{Waiting};
+ghost use Rattle.afdx_lawful.specs.Tallies.{counted};
 ghost use Rattle.afdx_lawful.specs.Unpaired.{IsToldOf};
+ghost use Rattle.afdx_senders.specs.Counting.{AreOver, IsOver, cut_below, cut_of, held_at};
+ghost use Rattle.afdx_senders.specs.Counting.{held_in_all, sent_below, sent_of};
 ghost use Rattle.afdx_senders.specs.Followed.{AreFollowed, ByPlace, Followed, IsFound, MayCome};
 ghost use Rattle.afdx_senders.specs.Followed.{came_next, came_of, due_at, nothing_followed, put_at};
 ghost use Rattle.afdx_senders.specs.Followed.{StandsAt, told_next};
 
 use crate::site_frame::SiteFrame;
 use afdx_conform::Spare;
-use afdx_lawful::{HeardFrame, JudgedSource, UnpairedFrame};
+use afdx_lawful::{HeardFrame, JudgedSource, SourceCounts, UnpairedFrame};
 use std::alloc::{AllocError, Global};
 
 /// A frame comes to a source, if it is one: what is found of it. Fails only out of memory; then
@@ -29,6 +32,7 @@ fn came_to(
     ensures refused { (f : Followed) → StandsAt (Some f) slot.old →
         OnErr result (StandsAt (Some f) slot.new) }
     ensures none { slot.old ≡ None → slot.new ≡ None }
+    ensures silent { slot.old ≡ None → IfOk result (λ heard. heard ≡ None) }
 {
     match slot {
         Some(source) => {
@@ -48,10 +52,23 @@ fn tell_of(slot: &mut Option<JudgedSource>, end: Option<u64>) -> Option<Unpaired
         (y : Waiting) × (next_told f.source f.course ≡ Some y) × (IsKnownBy f.source end y →
         IsToldOf f.source f.course y told × StandsAt (Some (told_next f y)) slot.new)) }
     ensures empty { slot.old ≡ None → (result ≡ None) × (slot.new ≡ None) }
+    ensures less { IfSome result (λ told. held_at slot.new < held_at slot.old) }
 {
     match slot {
         Some(source) => source.tell(end),
         None => None,
+    }
+}
+
+/// What is counted of a source, if it is one.
+fn counts_of(slot: &Option<JudgedSource>) -> SourceCounts
+    ensures sent { (o : Option Followed) → StandsAt o slot.now → IsOver o →
+        result.sent ≡ sent_of o }
+    ensures cut { (o : Option Followed) → StandsAt o slot.now → IsOver o → result.cut ≡ cut_of o }
+{
+    match slot {
+        Some(source) => source.counts(),
+        None => SourceCounts { sent: 0, cut: 0 },
     }
 }
 
@@ -102,11 +119,30 @@ impl FollowedSources {
             AreFollowed at self.old → OnErr result (AreFollowed at self.new) }
         ensures none { (at : ByPlace) → at place ≡ None → AreFollowed at self.old →
             AreFollowed at self.new }
+        ensures silent { (at : ByPlace) → at place ≡ None → AreFollowed at self.old →
+            IfOk result (λ heard. heard ≡ None) }
     {
         if place >= self.slots.len() {
             return Ok(None);
         }
         came_to(&mut self.slots[place], spare, x)
+    }
+
+    /// What is counted of all sources once none of their frames waits, of fewer than 2^64 frames
+    /// each. Neither number goes beyond the greatest one.
+    pub fn counts(&self) -> SourceCounts
+        ensures sent { (at : ByPlace) → AreFollowed at self.now → AreOver at →
+            result.sent ≡ counted (sent_below at (length self.now.slots.items)) }
+        ensures cut { (at : ByPlace) → AreFollowed at self.now → AreOver at →
+            result.cut ≡ counted (cut_below at (length self.now.slots.items)) }
+    {
+        let mut counts = SourceCounts { sent: 0, cut: 0 };
+        for place in 0..self.slots.len() {
+            let own = counts_of(&self.slots[place]);
+            counts.sent = counts.sent.saturating_add(own.sent);
+            counts.cut = counts.cut.saturating_add(own.cut);
+        }
+        counts
     }
 
     /// The moment in ns at which the next frame of the source at this place is told that waits for
@@ -137,6 +173,7 @@ impl FollowedSources {
             × AreFollowed (put_at place (told_next f y) at) self.new)) }
         ensures empty { (at : ByPlace) → at place ≡ None → AreFollowed at self.old →
             (result ≡ None) × AreFollowed at self.new }
+        ensures less { IfSome result (λ told. held_in_all self.new < held_in_all self.old) }
     {
         if place >= self.slots.len() {
             return None;
