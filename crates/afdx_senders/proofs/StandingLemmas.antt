@@ -1,9 +1,12 @@
 -- What is awaited of the sources, once a frame came to one of them.
-use Rattle.std.proofs.Common.{◌≡◌, ℕ, List, Bool, true, false, refl, sym, ap, ◌∙◌, subst, inl, inr}
+use Rattle.std.proofs.Common.{[], ◌≡◌, ℕ, List, Bool, true, false, refl, sym, ap, ◌∙◌, subst, inl, inr}
 use Rattle.std.proofs.lemmas.Bool.{eqb-true}
 use Rattle.std.specs.List.{Contains}
 use Rattle.std.specs.Prelude.{nat_eq, if◌then◌else◌, Option, Some, None, ◌⊎◌, Result, Ok, Err, OnOk}
-use Rattle.afdx_senders.specs.Followed.{AreFollowed, ByPlace, Followed, MayCome, came_next, due_at, put_at}
+use Rattle.afdx_lawful.specs.Courses.{at_first, next_told, oldest, sooner, still_waiting}
+use Rattle.afdx_lawful.specs.Partners.{waiting}
+use Rattle.afdx_lawful.specs.Sources.{Source}
+use Rattle.afdx_senders.specs.Followed.{due_of, AreFollowed, ByPlace, Followed, MayCome, came_next, due_at, put_at}
 use Rattle.afdx_senders.specs.Lines.{MayComeThere, came_there}
 use Rattle.afdx_senders.specs.Standing.{AwaitsToo, awaited}
 use Rattle.afdx_senders.specs.declared.followed.FollowedSources.{FollowedSources}
@@ -50,3 +53,22 @@ module _ (at : ByPlace) (x : SiteFrame) (place : ℕ) where
       → AreFollowed (came_there at x place o) kept
   came_followed None kept may none some = none refl
   came_followed (Some f) kept may none some = some f refl may
+
+-- ---- one more source is judged
+
+-- nothing is due of a source to which nothing came
+pub none_first : (s : Source) → next_told s at_first ≡ None
+unfolding still_waiting waiting
+none_first s = by s.is_paired
+  where
+    by : (b : Bool) → sooner (oldest (if b then [] else [])) (oldest (if b then [] else [])) ≡ None
+    by true = refl
+    by false = refl
+
+pub put_awaited : (at : ByPlace) (place : ℕ) (f : Followed) (agenda : List SenderLine) → due_of f ≡ None →
+    AllAwaited at agenda → AllAwaited (put_at place f at) agenda
+put_awaited at place f agenda none all k m = by (nat_eq k place)
+  where
+    by : (b : Bool) → due_at (if b then Some f else at k) ≡ Some m → Contains agenda (awaited m k)
+    by true due = let no : None ≡ Some m = sym none ∙ due in absurd (cc)
+    by false due = all k m due

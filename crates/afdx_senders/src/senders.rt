@@ -1,8 +1,12 @@
 //! The systems of a switch, judged as senders while frames come at its ports.
 
-ghost use Rattle.std.specs.Prelude.{◌≡◌, List, None, IfOk, OnOk};
+ghost use Rattle.std.specs.Prelude.{◌≡◌, ◌<◌, List, None, Some, IfOk, OnOk, length, slice_get};
+ghost use Rattle.afdx_config.specs.Rows.{LinkRow};
+ghost use Rattle.afdx_conform.specs.LeewayOf.{leeway_of};
+ghost use Rattle.afdx_lawful.specs.Ways.{IsApart};
+ghost use Rattle.afdx_senders.specs.Terms.{Asked as What, terms_at};
 ghost use Rattle.afdx_lawful.specs.declared.finding.SenderFinding.{SenderFinding as Finding};
-ghost use Rattle.afdx_senders.specs.Followed.{ByPlace, IsFound, nothing_followed};
+ghost use Rattle.afdx_senders.specs.Followed.{ByPlace, IsFound, newly, nothing_followed, put_at};
 ghost use Rattle.afdx_senders.specs.Lines.{AddsLines, MayComeThere, MayComeTo, after_came};
 ghost use Rattle.afdx_senders.specs.Lines.{came_there, found_at, found_by, lines_found};
 ghost use Rattle.afdx_senders.specs.Lines.{lines_strayed, some_found, told_line};
@@ -18,9 +22,9 @@ use crate::site_frame::SiteFrame;
 use crate::sites::{SenderSites, SourceOf};
 use crate::stray::stray_of;
 use afdx_config::Tables;
-use afdx_conform::Spare;
+use afdx_conform::{Leeway, Spare};
 use afdx_frame::Side;
-use afdx_lawful::HeardFrame;
+use afdx_lawful::{Apart, HeardFrame};
 use std::alloc::{AllocError, Global};
 
 /// The systems of a switch as senders: the sources that are followed, what was found of their
@@ -105,7 +109,11 @@ impl<'a> Senders<'a> {
         tables: &'a Tables,
         recorded: RecordedPorts,
     ) -> Result<Senders<'a>, AllocError>
-        ensures { IfOk result (λ senders. SendersStand nothing_followed senders) }
+        ensures stands { IfOk result (λ senders. SendersStand nothing_followed senders) }
+        ensures tables { IfOk result (λ senders. senders.sites.tables.now ≡ tables.now) }
+        ensures recorded { IfOk result (λ senders. senders.sites.recorded ≡ recorded) }
+        ensures room { IfOk result (λ senders.
+            length senders.kept.slots.items ≡ length tables.now.links) }
     {
         let sites = SenderSites::new(alloc, tables, recorded)?;
         let kept = FollowedSources::new(alloc, tables.link_count())?;
@@ -116,6 +124,24 @@ impl<'a> Senders<'a> {
             found: FoundLines::new(alloc),
             agenda: FoundLines::new(alloc),
         })
+    }
+
+    /// From now on the source of the link at this place is judged, of which nothing came: where
+    /// stamps and clocks may be off so much, and copies are sent so far apart.
+    pub fn judge(&mut self, alloc: Global, place: usize, by: &Leeway, apart: Apart)
+        requires link { place < length self.old.sites.tables.now.links }
+        requires room { place < length self.old.kept.slots.items }
+        ensures stands { let t = self.old.sites.tables.now in
+            let seen = recorded_in self.old.sites.recorded in
+            (k : What) (l : LinkRow) (at : ByPlace) → slice_get t.links place ≡ Some l →
+            leeway_of by.now ≡ k.by → IsApart (terms_at t seen k place l) apart →
+            SendersStand at self.old →
+            SendersStand (put_at place (newly (terms_at t seen k place l)) at) self.new }
+        ensures sites { self.new.sites ≡ self.old.sites }
+        ensures room { length self.new.kept.slots.items ≡ length self.old.kept.slots.items }
+    {
+        let source = self.sites.source(alloc, place, by, apart);
+        self.kept.put(place, source);
     }
 
     /// A frame came to the source at this place, if one is followed there.

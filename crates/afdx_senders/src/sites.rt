@@ -1,6 +1,6 @@
 //! Whose a frame is that came at a port of a switch.
 
-ghost use Rattle.std.specs.Prelude.{◌≡◌, ◌<◌, IfSome, OnOk, Some, length, slice_get};
+ghost use Rattle.std.specs.Prelude.{◌≡◌, ◌<◌, IfOk, IfSome, OnOk, Some, length, slice_get};
 ghost use Rattle.afdx_config.specs.Rows.{LinkRow};
 ghost use Rattle.afdx_senders.specs.Sites as spec;
 ghost use Rattle.afdx_senders.specs.Sites.{came_at, recorded_in};
@@ -50,7 +50,10 @@ impl<'a> SenderSites<'a> {
         alloc: Global,
         tables: &'a Tables,
         recorded: RecordedPorts,
-    ) -> Result<SenderSites<'a>, AllocError> {
+    ) -> Result<SenderSites<'a>, AllocError>
+        ensures tables { IfOk result (λ sites. sites.tables.now ≡ tables.now) }
+        ensures recorded { IfOk result (λ sites. sites.recorded ≡ recorded) }
+    {
         let places = LinkPlaces::new(alloc, tables)?;
         Ok(SenderSites {
             tables,
