@@ -37,8 +37,8 @@ module _ (at : ByPlace) (xs : List (Option JudgedSource)) (place : ℕ) (slot : 
           (sym (get_or-set_other xs place k slot None (λ e. true≢false (sym (eq-eqb k place e) ∙ other)))) (are k)
 
 -- what is read there
-pub read_there : (at : ByPlace) (xs : List (Option JudgedSource)) (place : ℕ) (slot : Option JudgedSource) (o : Option Followed)
-    → AreKept at xs → place < length xs → slot ≡ get_or xs place slot → at place ≡ o → StandsAt o slot
+pub read_there : (at : ByPlace) (xs : List (Option JudgedSource)) (place : ℕ) (slot : Option JudgedSource)
+    (o : Option Followed) → AreKept at xs → place < length xs → slot ≡ get_or xs place slot → at place ≡ o → StandsAt o slot
 read_there at xs place slot o are within is there =
     subst (λ p. StandsAt p slot) there
     (subst (λ v. StandsAt (at place) v) (sym (is ∙ get_or_default xs place slot None within)) (are place))

@@ -27,7 +27,8 @@ pub loud_one : (x : SiteFrame) (heard : HeardFrame) (fs : List SenderFinding) �
     is_empty fs ≡ false → map line_of (told_line x (Heard heard) ∷ []) ≡ lines_found x (some_found fs)
 loud_one x heard fs is loud = ap (λ gs. came_line x (OfSource gs) ∷ []) is ∙ by fs loud
   where
-    by : (gs : List SenderFinding) → is_empty gs ≡ false → came_line x (OfSource gs) ∷ [] ≡ lines_found x (some_found gs)
+    by : (gs : List SenderFinding) → is_empty gs ≡ false →
+        came_line x (OfSource gs) ∷ [] ≡ lines_found x (some_found gs)
     by [] h = absurd (cc)
     by (g ∷ gs) h = refl
 

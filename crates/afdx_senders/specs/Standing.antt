@@ -20,4 +20,5 @@ pub record AwaitsToo (place : ℕ) (before after : Option ℕ) (old new : List S
 -- these sources are followed, and what is due of each is awaited
 pub record SendersStand (at : ByPlace) (senders : Senders) : Type 0 where
   pub followed : AreFollowed at senders.kept
-  pub agenda : (place m : ℕ) → due_at (at place) ≡ Some m → Contains senders.agenda (awaited m place)
+  pub agenda : (place m : ℕ) → due_at (at place) ≡ Some m →
+      Contains senders.agenda (awaited m place)

@@ -23,4 +23,4 @@ pub use sender_line::{SenderLine, ToldOf};
 pub use senders::Senders;
 pub use site_frame::SiteFrame;
 pub use sites::{SenderSites, SourceOf};
-pub use stray::{Stray, stray_of};
+pub use stray::Stray;

@@ -29,7 +29,7 @@ fn shaped(frame: Checked<'_>, why: Stray) -> Stray
 }
 
 /// Why a frame that is so is no source's; None: it is, or nothing is found of it.
-pub fn stray_of(whose: SourceOf, frame: Checked<'_>) -> Option<Stray>
+pub(crate) fn stray_of(whose: SourceOf, frame: Checked<'_>) -> Option<Stray>
     ensures { result ≡ spec.stray_of whose (bytes_of frame.entry) }
 {
     match whose {

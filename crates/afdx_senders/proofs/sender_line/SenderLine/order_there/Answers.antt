@@ -8,7 +8,8 @@ returns-then-here-there c =
     let x = c.args.self.now in
     let y = c.args.other.now in
     let lt : spot_of x < spot_of y =
-    (let h = c.spot-here.ensures in let k = c.spot-there.ensures in let t = c.if-here-there.true in omega (arith, h, k, t)) in
+    (let h = c.spot-here.ensures in let k = c.spot-there.ensures in let t = c.if-here-there.true in
+    omega (arith, h, k, t)) in
     before_there x y c.are_in_type.ensures lt
 
 pub returns-then-here-there-2 : goal.returns-then-here-there-2
@@ -16,7 +17,8 @@ returns-then-here-there-2 c =
     let x = c.args.self.now in
     let y = c.args.other.now in
     let lt : spot_of y < spot_of x =
-    (let h = c.spot-here.ensures in let k = c.spot-there.ensures in let t = c.if-here-there-2.true in omega (arith, h, k, t)) in
+    (let h = c.spot-here.ensures in let k = c.spot-there.ensures in let t = c.if-here-there-2.true in
+    omega (arith, h, k, t)) in
     behind_there x y c.are_in_type-2.ensures lt
 
 pub returns : goal.returns
