@@ -1,0 +1,47 @@
+-- Lines that are added to those that are held.
+use Rattle.std.proofs.Common.{◌≡◌, List, [], ◌∷◌, true, false, map, refl, sym, ap, ◌∙◌, subst}
+use Rattle.std.proofs.lemmas.List.Sorted.{IsPermutation-refl}
+use Rattle.std.specs.Prelude.{Option, Some, None}
+use Rattle.afdx_lawful.specs.Alone.{is_empty}
+use Rattle.afdx_lawful.specs.OneSide.{told_heard}
+use Rattle.afdx_lawful.specs.declared.finding.SenderFinding.{SenderFinding}
+use Rattle.afdx_lawful.specs.declared.heard.HeardFrame.{HeardFrame}
+use Rattle.afdx_lawful.specs.Judged.{found_of}
+use Rattle.afdx_senders.specs.Followed.{Followed, IsFound, MayCome, came_of}
+use Rattle.afdx_senders.specs.Lines.{AddsLines, MayComeThere, OfSource, came_line, found_at, line_of, lines_found, some_found}
+use Rattle.afdx_senders.specs.Lines.{told_line}
+use Rattle.afdx_senders.specs.declared.sender_line.SenderLine.{SenderLine}
+use Rattle.afdx_senders.specs.declared.sender_line.ToldOf.TheVariants.{Heard}
+use Rattle.afdx_senders.specs.declared.site_frame.SiteFrame.{SiteFrame}
+
+pub adds_none : (before : List SenderLine) → AddsLines [] before before
+adds_none before = ([], refl, IsPermutation-refl before)
+
+-- nothing was found
+pub quiet_none : (x : SiteFrame) (fs : List SenderFinding) → is_empty fs ≡ true → lines_found x (some_found fs) ≡ []
+quiet_none x [] h = refl
+quiet_none x (f ∷ fs) h = absurd (cc)
+
+-- something was
+pub loud_one : (x : SiteFrame) (heard : HeardFrame) (fs : List SenderFinding) → told_heard x.line heard ≡ fs →
+    is_empty fs ≡ false → map line_of (told_line x (Heard heard) ∷ []) ≡ lines_found x (some_found fs)
+loud_one x heard fs is loud = ap (λ gs. came_line x (OfSource gs) ∷ []) is ∙ by fs loud
+  where
+    by : (gs : List SenderFinding) → is_empty gs ≡ false →
+        came_line x (OfSource gs) ∷ [] ≡ lines_found x (some_found gs)
+    by [] h = absurd (cc)
+    by (g ∷ gs) h = refl
+
+-- what is found of a frame that came to a source, if there is one
+pub found_next : (x : SiteFrame) (o : Option Followed) (heard : Option HeardFrame) (old new : List SenderLine) →
+    MayComeThere x o
+    → (o ≡ None → heard ≡ None)
+    → ((f : Followed) → o ≡ Some f → MayCome f x.time
+    → IsFound x.line (found_of f.source f.course.came (came_of x)) heard)
+    → (heard ≡ None → new ≡ old)
+    → ((fs : List SenderFinding) → IsFound x.line fs heard → AddsLines (lines_found x (some_found fs)) old new)
+    → AddsLines (lines_found x (found_at x o)) old new
+found_next x None heard old new may silent found same more =
+    subst (λ ys. AddsLines [] old ys) (sym (same (silent refl))) (adds_none old)
+found_next x (Some f) heard old new may silent found same more =
+    more (found_of f.source f.course.came (came_of x)) (found f refl may)

@@ -1,0 +1,68 @@
+-- Whose a frame is, from what the tables answer.
+use Rattle.std.proofs.Common.{◌≡◌, ℕ, Bool, true, false, ◌&&◌, refl, sym, ap, ◌∙◌}
+use Rattle.std.specs.Prelude.{nat_eq, nat_lt, is_some, option_map, slice_get, Option, Some, None}
+use Rattle.std.specs.Prelude.{if◌then◌else◌}
+use Rattle.std.specs.Option.{option_map_or}
+use Rattle.afdx_config.specs.Reading.{link_of, listener_at}
+use Rattle.afdx_config.specs.Rows.{LinkRow, Rows, SystemRow}
+use Rattle.afdx_config.specs.declared.rows.SystemId.{SystemId}
+use Rattle.afdx_frame.specs.declared.link.Side.{Side}
+use Rattle.afdx_frame.specs.declared.link.VlId.{VlId}
+use Rattle.afdx_law_bounds.specs.Tables.{port_of}
+use Rattle.afdx_senders.specs.Sites.{Recorded, came_at, is_sent_at, is_site, named_as, sent_as, sent_by, sent_in}
+use Rattle.afdx_senders.specs.Sites.{source_of}
+use Rattle.afdx_senders.specs.declared.site_frame.SiteFrame.{SiteFrame}
+use Rattle.afdx_senders.specs.declared.sites.SourceOf.TheVariants.{Source, Elsewhere, Unknown, Nobody}
+
+-- ---- where a link is sent
+
+pub sent_own : (t : Rows) (l : LinkRow) (s : SystemRow) (port : ℕ) → nat_lt l.from t.own ≡ true →
+    slice_get t.systems l.from ≡ Some s → nat_eq s.port port ≡ is_sent_at t l port
+unfolding is_sent_at port_of
+sent_own t l s port own at =
+    sym (ap (λ b. b && nat_eq (option_map_or (λ r. r.port) (slice_get t.systems l.from) 0) port) own
+    ∙ ap (λ o. nat_eq (option_map_or (λ r. r.port) o 0) port) at)
+
+-- ---- sites
+
+some_mapped : (o : Option SystemId) → is_some o ≡ is_some (option_map (λ i. i.0) o)
+some_mapped None = refl
+some_mapped (Some i) = refl
+
+module _ (t : Rows) (recorded : Recorded) (side : Side) (port : ℕ) where
+  pub site_known : (o : Option SystemId) → option_map (λ i. i.0) o ≡ listener_at t port → recorded side port ≡ true →
+      is_some o ≡ is_site t recorded side port
+  unfolding is_site
+  site_known o at known =
+      some_mapped o ∙ ap is_some at ∙ sym (ap (λ b. b && is_some (listener_at t port)) known)
+
+  pub site_unknown : recorded side port ≡ false → false ≡ is_site t recorded side port
+  unfolding is_site
+  site_unknown unknown = sym (ap (λ b. b && is_some (listener_at t port)) unknown)
+
+-- ---- by the link that a frame names
+
+module _ (t : Rows) (port : ℕ) (vl : VlId) where
+  pub sent_at : (place : ℕ) (l : LinkRow) (is : Bool) → link_of t.links vl.0 ≡ Some place →
+      slice_get t.links place ≡ Some l → is_sent_at t l port ≡ is →
+      sent_by t port vl ≡ (if is then Source place else Elsewhere)
+  unfolding sent_by
+  sent_at place l is found at sent =
+      ap (sent_in t port) found ∙ ap (sent_as t port place) at
+      ∙ ap (λ (b : Bool). if b then Source place else Elsewhere) sent
+
+  pub sent_nowhere : link_of t.links vl.0 ≡ None → sent_by t port vl ≡ Unknown
+  unfolding sent_by
+  sent_nowhere none = ap (sent_in t port) none
+
+module _ (t : Rows) (recorded : Recorded) (x : SiteFrame) where
+  pub named_nothing : x.vl ≡ None → source_of t recorded (came_at x) ≡ Nobody
+  unfolding source_of
+  named_nothing none = ap (named_as t recorded (came_at x)) (sym x.named ∙ none)
+
+  pub named_some : (vl : VlId) (is : Bool) → x.vl ≡ Some vl → is_site t recorded x.side x.port ≡ is →
+      source_of t recorded (came_at x) ≡ (if is then sent_by t x.port vl else Nobody)
+  unfolding source_of
+  named_some vl is some site =
+      ap (named_as t recorded (came_at x)) (sym x.named ∙ some)
+      ∙ ap (λ (b : Bool). if b then sent_by t x.port vl else Nobody) site

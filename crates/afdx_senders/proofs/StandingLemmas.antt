@@ -1,0 +1,74 @@
+-- What is awaited of the sources, once a frame came to one of them.
+use Rattle.std.proofs.Common.{[], ◌≡◌, ℕ, List, Bool, true, false, refl, sym, ap, ◌∙◌, subst, inl, inr}
+use Rattle.std.proofs.lemmas.Bool.{eqb-true}
+use Rattle.std.specs.List.{Contains}
+use Rattle.std.specs.Prelude.{nat_eq, if◌then◌else◌, Option, Some, None, ◌⊎◌, Result, Ok, Err, OnOk}
+use Rattle.afdx_lawful.specs.Courses.{at_first, next_told, oldest, sooner, still_waiting}
+use Rattle.afdx_lawful.specs.Partners.{waiting}
+use Rattle.afdx_lawful.specs.Sources.{Source}
+use Rattle.afdx_senders.specs.Followed.{due_of, AreFollowed, ByPlace, Followed, MayCome, came_next, due_at, put_at}
+use Rattle.afdx_senders.specs.Lines.{MayComeThere, came_there}
+use Rattle.afdx_senders.specs.Standing.{AwaitsToo, awaited}
+use Rattle.afdx_senders.specs.declared.followed.FollowedSources.{FollowedSources}
+use Rattle.afdx_senders.specs.declared.sender_line.SenderLine.{SenderLine}
+use Rattle.afdx_senders.specs.declared.site_frame.SiteFrame.{SiteFrame}
+
+pub on_ok : {X E : Type 0} {P Q : Type 0} → (P → Q) → (r : Result X E) → OnOk r P → OnOk r Q
+on_ok f (Ok x) p = f p
+on_ok f (Err e) p = tt
+
+-- what is due of each source is awaited
+abbrev pub AllAwaited : ByPlace → List SenderLine → Type 0
+AllAwaited at agenda = (place m : ℕ) → due_at (at place) ≡ Some m → Contains agenda (awaited m place)
+
+module _ (at next : ByPlace) (place : ℕ) (before after : Option ℕ) (old new : List SenderLine)
+    (others : (k : ℕ) → nat_eq k place ≡ false → next k ≡ at k) (was : before ≡ due_at (at place))
+    (is : after ≡ due_at (next place)) (too : AwaitsToo place before after old new) (all : AllAwaited at old) where
+  here : (m : ℕ) → due_at (next place) ≡ Some m → Contains new (awaited m place)
+  here m due = by (too.due m (is ∙ due))
+    where
+      by : (before ≡ Some m) ⊎ Contains new (awaited m place) → Contains new (awaited m place)
+      by (inl same) = too.kept (awaited m place) (all place m (sym was ∙ same))
+      by (inr there) = there
+
+  pub awaited_next : AllAwaited next new
+  awaited_next k m due = by (nat_eq k place) refl
+    where
+      by : (b : Bool) → nat_eq k place ≡ b → Contains new (awaited m k)
+      by true same =
+          let e = eqb-true k place same in
+          subst (λ n. Contains new (awaited m n)) (sym e)
+          (here m (subst (λ n. due_at (next n) ≡ Some m) e due))
+      by false other = too.kept (awaited m k) (all k m (ap due_at (sym (others k other)) ∙ due))
+
+module _ (at : ByPlace) (x : SiteFrame) (place : ℕ) where
+  pub came_others : (o : Option Followed) (k : ℕ) → nat_eq k place ≡ false → came_there at x place o k ≡ at k
+  came_others None k other = refl
+  came_others (Some f) k other = ap (λ (b : Bool). if b then Some (came_next f x) else at k) other
+
+  -- the sources that are followed then
+  pub came_followed : (o : Option Followed) (kept : FollowedSources) → MayComeThere x o →
+      (o ≡ None → AreFollowed at kept)
+      → ((f : Followed) → o ≡ Some f → MayCome f x.time → AreFollowed (put_at place (came_next f x) at) kept)
+      → AreFollowed (came_there at x place o) kept
+  came_followed None kept may none some = none refl
+  came_followed (Some f) kept may none some = some f refl may
+
+-- ---- one more source is judged
+
+-- nothing is due of a source to which nothing came
+pub none_first : (s : Source) → next_told s at_first ≡ None
+unfolding still_waiting waiting
+none_first s = by s.is_paired
+  where
+    by : (b : Bool) → sooner (oldest (if b then [] else [])) (oldest (if b then [] else [])) ≡ None
+    by true = refl
+    by false = refl
+
+pub put_awaited : (at : ByPlace) (place : ℕ) (f : Followed) (agenda : List SenderLine) → due_of f ≡ None →
+    AllAwaited at agenda → AllAwaited (put_at place f at) agenda
+put_awaited at place f agenda none all k m = by (nat_eq k place)
+  where
+    by : (b : Bool) → due_at (if b then Some f else at k) ≡ Some m → Contains agenda (awaited m k)
+    by true due = let no : None ≡ Some m = sym none ∙ due in absurd (cc)
+    by false due = all k m due

@@ -1,0 +1,200 @@
+//! The systems of a switch, judged as senders while frames come at its ports.
+
+ghost use Rattle.std.specs.Prelude.{◌≡◌, ◌<◌, List, None, Some, IfOk, OnOk, length, slice_get};
+ghost use Rattle.afdx_config.specs.Rows.{LinkRow};
+ghost use Rattle.afdx_conform.specs.LeewayOf.{leeway_of};
+ghost use Rattle.afdx_lawful.specs.Ways.{IsApart};
+ghost use Rattle.afdx_senders.specs.Terms.{Asked as What, terms_at};
+ghost use Rattle.afdx_lawful.specs.declared.finding.SenderFinding.{SenderFinding as Finding};
+ghost use Rattle.afdx_senders.specs.Followed.{ByPlace, IsFound, newly, nothing_followed, put_at};
+ghost use Rattle.afdx_senders.specs.Lines.{AddsLines, MayComeThere, MayComeTo, after_came};
+ghost use Rattle.afdx_senders.specs.Lines.{came_there, found_at, found_by, lines_found};
+ghost use Rattle.afdx_senders.specs.Lines.{lines_strayed, some_found, told_line};
+ghost use Rattle.afdx_senders.specs.Sites.{came_at, recorded_in, source_of};
+ghost use Rattle.afdx_senders.specs.Standing as spec;
+ghost use Rattle.afdx_senders.specs.Standing.{AwaitsToo, SendersStand};
+
+use crate::followed::FollowedSources;
+use crate::found_lines::FoundLines;
+use crate::recorded_ports::RecordedPorts;
+use crate::sender_line::{SenderLine, ToldOf};
+use crate::site_frame::SiteFrame;
+use crate::sites::{SenderSites, SourceOf};
+use crate::stray::stray_of;
+use afdx_config::Tables;
+use afdx_conform::{Leeway, Spare};
+use afdx_frame::Side;
+use afdx_lawful::{Apart, HeardFrame};
+use std::alloc::{AllocError, Global};
+
+/// The systems of a switch as senders: the sources that are followed, what was found of their
+/// frames and isn't told yet, and when frames of each wait no longer.
+#[derive(Drop)]
+pub struct Senders<'a> {
+    sites: SenderSites<'a>,
+    spare: Spare,
+    kept: FollowedSources,
+    found: FoundLines,
+    agenda: FoundLines,
+}
+
+/// What is told of a frame, at its moment.
+fn line_of(x: &SiteFrame<'_>, told: ToldOf) -> SenderLine
+    ensures { result ≡ told_line x.now told }
+{
+    SenderLine {
+        moment: x.time,
+        side: x.side,
+        port: x.port,
+        line: x.line,
+        told,
+    }
+}
+
+/// At this moment, in ns, frames of the source at this place wait no longer. It stands as a line of
+/// no port, whose number is the place.
+fn awaited(moment: u64, place: usize) -> SenderLine
+    ensures { result ≡ spec.awaited moment place }
+{
+    SenderLine {
+        moment,
+        side: Side::A,
+        port: 0,
+        line: place as u64,
+        told: ToldOf::Single,
+    }
+}
+
+/// What is found of a frame is to be told, if anything is.
+fn put_heard(
+    found: &mut FoundLines,
+    x: &SiteFrame<'_>,
+    heard: Option<HeardFrame>,
+) -> Result<(), AllocError>
+    ensures found { (fs : List Finding) → IsFound x.now.line fs heard → OnOk result
+        (AddsLines (lines_found x.now (some_found fs)) found.old found.new) }
+    ensures none { heard ≡ None → OnOk result (found.new ≡ found.old) }
+{
+    let Some(heard) = heard else {
+        return Ok(());
+    };
+    if heard.is_quiet() {
+        return Ok(());
+    }
+    found.push(line_of(x, ToldOf::Heard(heard)))
+}
+
+/// What is due of the source at this place now is awaited, unless it was due before.
+fn put_due(
+    agenda: &mut FoundLines,
+    place: usize,
+    before: Option<u64>,
+    after: Option<u64>,
+) -> Result<(), AllocError>
+    ensures { OnOk result (AwaitsToo place before after agenda.old agenda.new) }
+{
+    if before == after {
+        return Ok(());
+    }
+    match after {
+        Some(moment) => agenda.push(awaited(moment, place)),
+        None => Ok(()),
+    }
+}
+
+impl<'a> Senders<'a> {
+    /// Those of the tables, where these ports were recorded; no source is followed yet.
+    pub fn new(
+        alloc: Global,
+        tables: &'a Tables,
+        recorded: RecordedPorts,
+    ) -> Result<Senders<'a>, AllocError>
+        ensures stands { IfOk result (λ senders. SendersStand nothing_followed senders) }
+        ensures tables { IfOk result (λ senders. senders.sites.tables.now ≡ tables.now) }
+        ensures recorded { IfOk result (λ senders. senders.sites.recorded ≡ recorded) }
+        ensures room { IfOk result (λ senders.
+            length senders.kept.slots.items ≡ length tables.now.links) }
+    {
+        let sites = SenderSites::new(alloc, tables, recorded)?;
+        let kept = FollowedSources::new(alloc, tables.link_count())?;
+        Ok(Senders {
+            sites,
+            spare: Spare::new(alloc),
+            kept,
+            found: FoundLines::new(alloc),
+            agenda: FoundLines::new(alloc),
+        })
+    }
+
+    /// From now on the source of the link at this place is judged, of which nothing came: where
+    /// stamps and clocks may be off so much, and copies are sent so far apart.
+    pub fn judge(&mut self, alloc: Global, place: usize, by: &Leeway, apart: Apart)
+        requires link { place < length self.old.sites.tables.now.links }
+        requires room { place < length self.old.kept.slots.items }
+        ensures stands { let t = self.old.sites.tables.now in
+            let seen = recorded_in self.old.sites.recorded in
+            (k : What) (l : LinkRow) (at : ByPlace) → slice_get t.links place ≡ Some l →
+            leeway_of by.now ≡ k.by → IsApart (terms_at t seen k place l) apart →
+            SendersStand at self.old →
+            SendersStand (put_at place (newly (terms_at t seen k place l)) at) self.new }
+        ensures sites { self.new.sites ≡ self.old.sites }
+        ensures room { length self.new.kept.slots.items ≡ length self.old.kept.slots.items }
+    {
+        let source = self.sites.source(alloc, place, by, apart);
+        self.kept.put(place, source);
+    }
+
+    /// A frame came to the source at this place, if one is followed there.
+    fn came_to(&mut self, place: usize, x: &SiteFrame<'_>) -> Result<(), AllocError>
+        ensures stands { (at : ByPlace) → MayComeThere x.now (at place) →
+            SendersStand at self.old →
+            OnOk result (SendersStand (came_there at x.now place (at place)) self.new) }
+        ensures found { (at : ByPlace) → MayComeThere x.now (at place) →
+            SendersStand at self.old → OnOk result (AddsLines
+            (lines_found x.now (found_at x.now (at place))) self.old.found self.new.found) }
+        ensures sites { self.new.sites ≡ self.old.sites }
+    {
+        let before = self.kept.due(place);
+        let heard = self.kept.came(place, &mut self.spare, x)?;
+        put_heard(&mut self.found, x, heard)?;
+        let after = self.kept.due(place);
+        put_due(&mut self.agenda, place, before, after)
+    }
+
+    /// A frame came that is of no source.
+    fn strayed(&mut self, whose: SourceOf, x: &SiteFrame<'_>) -> Result<(), AllocError>
+        ensures stands { (at : ByPlace) → SendersStand at self.old →
+            OnOk result (SendersStand at self.new) }
+        ensures found { (at : ByPlace) → OnOk result (AddsLines
+            (lines_strayed x.now whose) self.old.found self.new.found) }
+    {
+        match stray_of(whose, x.frame) {
+            Some(stray) => self.found.push(line_of(x, ToldOf::Strayed(stray))),
+            None => Ok(()),
+        }
+    }
+
+    /// A frame came at a port of the switch. No earlier one than those before it; and what was due
+    /// before its time has been told. The error says that memory was refused.
+    pub fn came(&mut self, x: &SiteFrame<'_>) -> Result<(), AllocError>
+        ensures stands { (at : ByPlace) →
+            let whose = source_of self.old.sites.tables.now (recorded_in self.old.sites.recorded)
+            (came_at x.now) in
+            MayComeTo at x.now whose → SendersStand at self.old →
+            OnOk result (SendersStand (after_came at x.now whose) self.new) }
+        ensures found { (at : ByPlace) →
+            let whose = source_of self.old.sites.tables.now (recorded_in self.old.sites.recorded)
+            (came_at x.now) in
+            MayComeTo at x.now whose → SendersStand at self.old →
+            OnOk result (AddsLines (lines_found x.now (found_by at x.now whose))
+            self.old.found self.new.found) }
+    {
+        let whose = self.sites.source_of(x);
+        match whose {
+            SourceOf::Source(place) => self.came_to(place, x),
+            SourceOf::Elsewhere => self.strayed(whose, x),
+            SourceOf::Unknown => self.strayed(whose, x),
+            SourceOf::Nobody => Ok(()),
+        }
+    }
+}

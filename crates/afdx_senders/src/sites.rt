@@ -1,0 +1,102 @@
+//! Whose a frame is that came at a port of a switch.
+
+ghost use Rattle.std.specs.Prelude.{◌≡◌, ◌<◌, IfOk, IfSome, OnOk, Some, length, slice_get};
+ghost use Rattle.afdx_config.specs.Rows.{LinkRow};
+ghost use Rattle.afdx_senders.specs.Sites as spec;
+ghost use Rattle.afdx_senders.specs.Sites.{came_at, recorded_in};
+
+use crate::link_places::LinkPlaces;
+use crate::recorded_ports::RecordedPorts;
+use crate::site_frame::SiteFrame;
+use afdx_config::Tables;
+use afdx_frame::{Side, VlId};
+use std::alloc::{AllocError, Global};
+
+/// Whose a frame is that came at a port of a switch.
+#[derive(Clone, Copy, Debug, PartialEq, Eq)]
+pub enum SourceOf {
+    /// The source's of the link at this place of the tables, whose system stands there.
+    Source(usize),
+    /// A link's that the system there doesn't send.
+    Elsewhere,
+    /// A link's that the tables don't have.
+    Unknown,
+    /// Nobody's: it names no link, or no recorded system stands there.
+    Nobody,
+}
+
+/// The ports of a switch at which its systems stand, and which of them were recorded.
+#[derive(Debug, Drop)]
+pub struct SenderSites<'a> {
+    pub(crate) tables: &'a Tables,
+    pub(crate) recorded: RecordedPorts,
+    places: LinkPlaces,
+}
+
+/// Whether the link at this place comes from a system of the switch, at this port.
+#[tactic(auto, unfolding(crate::specs::Sites::is_sent_at))]
+fn is_sent_at(tables: &Tables, place: usize, port: u8) -> bool
+    requires { place < length tables.now.links }
+    ensures { (l : LinkRow) → slice_get tables.now.links place ≡ Some l →
+        result ≡ spec.is_sent_at tables.now l port }
+{
+    let from = tables.link(place).from;
+    tables.is_own(from) && tables.system(from).port == port
+}
+
+impl<'a> SenderSites<'a> {
+    /// Those of the tables, of which these were recorded.
+    pub fn new(
+        alloc: Global,
+        tables: &'a Tables,
+        recorded: RecordedPorts,
+    ) -> Result<SenderSites<'a>, AllocError>
+        ensures tables { IfOk result (λ sites. sites.tables.now ≡ tables.now) }
+        ensures recorded { IfOk result (λ sites. sites.recorded ≡ recorded) }
+    {
+        let places = LinkPlaces::new(alloc, tables)?;
+        Ok(SenderSites {
+            tables,
+            recorded,
+            places,
+        })
+    }
+
+    /// Whether a system stands at this port of a side, and the port was recorded.
+    fn is_site(&self, side: Side, port: u8) -> bool
+        ensures { result ≡
+            spec.is_site self.now.tables.now (recorded_in self.now.recorded) side port }
+    {
+        self.recorded.has(side, port) && self.tables.listener_at(port).is_some()
+    }
+
+    /// Whose a frame of this link is that came at a port where a system stands.
+    fn sent_by(&self, vl: VlId, port: u8) -> SourceOf
+        ensures { result ≡ spec.sent_by self.now.tables.now port vl }
+    {
+        match self.places.of(self.tables, vl) {
+            Some(place) => {
+                if is_sent_at(self.tables, place, port) {
+                    SourceOf::Source(place)
+                } else {
+                    SourceOf::Elsewhere
+                }
+            }
+            None => SourceOf::Unknown,
+        }
+    }
+
+    /// Whose a frame is.
+    pub fn source_of(&self, x: &SiteFrame<'_>) -> SourceOf
+        ensures { result ≡
+            spec.source_of self.now.tables.now (recorded_in self.now.recorded) (came_at x.now) }
+    {
+        let Some(vl) = x.vl else {
+            return SourceOf::Nobody;
+        };
+        if !self.is_site(x.side, x.port) {
+            return SourceOf::Nobody;
+        }
+        self.sent_by(vl, x.port)
+    }
+}
