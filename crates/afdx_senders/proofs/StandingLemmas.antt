@@ -27,7 +27,8 @@ abbrev pub AllAwaited : ByPlace → List SenderLine → Type 0
 AllAwaited at agenda = (place m : ℕ) → due_at (at place) ≡ Some m → Contains agenda (awaited m place)
 
 module _ (at next : ByPlace) (place : ℕ) (before after : Option ℕ) (old new : List SenderLine)
-    (others : (k : ℕ) → nat_eq k place ≡ false → next k ≡ at k) (held : (m : ℕ) → before ≡ Some m → Contains old (awaited m place))
+    (others : (k : ℕ) → nat_eq k place ≡ false → next k ≡ at k)
+    (held : (m : ℕ) → before ≡ Some m → Contains old (awaited m place))
     (is : after ≡ due_at (next place)) (too : AwaitsToo place before after old new) (all : AllAwaited at old) where
   here : (m : ℕ) → due_at (next place) ≡ Some m → Contains new (awaited m place)
   here m due = by (too.due m (is ∙ due))
