@@ -38,8 +38,8 @@ module _ (at : ByPlace) (xs : List (Option JudgedSource)) (place : ℕ) (slot : 
 
 -- what is read there
 pub read_there : (at : ByPlace) (xs : List (Option JudgedSource)) (place : ℕ) (slot : Option JudgedSource)
-    (o : Option Followed) → AreKept at xs → place < length xs → slot ≡ get_or xs place slot → at place ≡ o
-    → StandsAt o slot
+    (o : Option Followed) → AreKept at xs
+    → place < length xs → slot ≡ get_or xs place slot → at place ≡ o → StandsAt o slot
 read_there at xs place slot o are within is there =
     subst (λ p. StandsAt p slot) there
     (subst (λ v. StandsAt (at place) v) (sym (is ∙ get_or_default xs place slot None within)) (are place))

@@ -1,12 +1,17 @@
 -- Lines that are added to those that are held.
-use Rattle.std.proofs.Common.{◌≡◌, List, [], ◌∷◌, true, false, map, refl, sym, ap, ◌∙◌, subst}
+use Rattle.std.proofs.Common.{ℕ, ◌≡◌, List, [], ◌∷◌, true, false, map, refl, sym, ap, ◌∙◌, subst}
 use Rattle.std.proofs.lemmas.List.Sorted.{IsPermutation-refl}
 use Rattle.std.specs.Prelude.{Option, Some, None}
 use Rattle.afdx_lawful.specs.Alone.{is_empty}
 use Rattle.afdx_lawful.specs.OneSide.{told_heard}
 use Rattle.afdx_lawful.specs.declared.finding.SenderFinding.{SenderFinding}
 use Rattle.afdx_lawful.specs.declared.heard.HeardFrame.{HeardFrame}
+use Rattle.afdx_lawful.specs.Courses.{told_at}
 use Rattle.afdx_lawful.specs.Judged.{found_of}
+use Rattle.afdx_lawful.specs.Partners.{Waiting}
+use Rattle.afdx_lawful.specs.Unpaired.{IsToldOf}
+use Rattle.afdx_lawful.specs.declared.unpaired.UnpairedFrame.{UnpairedFrame}
+use Rattle.afdx_senders.specs.Lines.{lines_single, single_line}
 use Rattle.afdx_senders.specs.Followed.{Followed, IsFound, MayCome, came_of}
 use Rattle.afdx_senders.specs.Lines.{AddsLines, MayComeThere, OfSource, came_line, found_at, line_of, lines_found, some_found}
 use Rattle.afdx_senders.specs.Lines.{told_line}
@@ -45,3 +50,13 @@ found_next x None heard old new may silent found same more =
     subst (λ ys. AddsLines [] old ys) (sym (same (silent refl))) (adds_none old)
 found_next x (Some f) heard old new may silent found same more =
     more (found_of f.source f.course.came (came_of x)) (found f refl may)
+
+-- what is told of a frame that waited in vain
+pub single_same : (port : ℕ) (f : Followed) (y : Waiting) (told : UnpairedFrame) →
+    IsToldOf f.source f.course y told
+    → single_line port told.line told.side told.moment told.is_cut ≡ lines_single port f y
+single_same port f y told is =
+    ap (λ n. single_line port n told.side told.moment told.is_cut) is.line
+    ∙ ap (λ s. single_line port y.frame.line s told.moment told.is_cut) is.side
+    ∙ ap (λ m. single_line port y.frame.line y.frame.side m told.is_cut) is.moment
+    ∙ ap (λ b. single_line port y.frame.line y.frame.side (told_at f.source y) b) is.is_cut

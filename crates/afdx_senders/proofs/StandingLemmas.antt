@@ -1,10 +1,15 @@
 -- What is awaited of the sources, once a frame came to one of them.
-use Rattle.std.proofs.Common.{[], ◌≡◌, ℕ, List, Bool, true, false, refl, sym, ap, ◌∙◌, subst, inl, inr}
+use Rattle.std.proofs.Common.{length, drop, [], ◌≡◌, ℕ, List, Bool, true, false, refl, sym, ap, ◌∙◌, subst, inl, inr}
 use Rattle.std.proofs.lemmas.Bool.{eqb-true}
 use Rattle.std.specs.List.{Contains}
 use Rattle.std.specs.Prelude.{nat_eq, if◌then◌else◌, Option, Some, None, ◌⊎◌, Result, Ok, Err, OnOk}
-use Rattle.afdx_lawful.specs.Courses.{at_first, next_told, oldest, sooner, still_waiting}
+use Rattle.afdx_lawful.specs.Courses.{AllTold, Course, Unpaired, over, waited_of, waited_on, at_first, next_told, oldest, sooner, still_waiting}
+use Rattle.afdx_lawful.specs.Judged.{waiting_of}
 use Rattle.afdx_lawful.specs.Partners.{waiting}
+use Rattle.afdx_frame.specs.declared.link.Side.{Side}
+use Rattle.afdx_frame.specs.declared.link.Side.TheVariants.{A, B}
+use Rattle.std.proofs.Math.Seq.{drop-length}
+use Rattle.std.proofs.lemmas.List.{length-map}
 use Rattle.afdx_lawful.specs.Sources.{Source}
 use Rattle.afdx_senders.specs.Followed.{due_of, AreFollowed, ByPlace, Followed, MayCome, came_next, due_at, put_at}
 use Rattle.afdx_senders.specs.Lines.{MayComeThere, came_there}
@@ -22,13 +27,14 @@ abbrev pub AllAwaited : ByPlace → List SenderLine → Type 0
 AllAwaited at agenda = (place m : ℕ) → due_at (at place) ≡ Some m → Contains agenda (awaited m place)
 
 module _ (at next : ByPlace) (place : ℕ) (before after : Option ℕ) (old new : List SenderLine)
-    (others : (k : ℕ) → nat_eq k place ≡ false → next k ≡ at k) (was : before ≡ due_at (at place))
+    (others : (k : ℕ) → nat_eq k place ≡ false → next k ≡ at k)
+    (held : (m : ℕ) → before ≡ Some m → Contains old (awaited m place))
     (is : after ≡ due_at (next place)) (too : AwaitsToo place before after old new) (all : AllAwaited at old) where
   here : (m : ℕ) → due_at (next place) ≡ Some m → Contains new (awaited m place)
   here m due = by (too.due m (is ∙ due))
     where
       by : (before ≡ Some m) ⊎ Contains new (awaited m place) → Contains new (awaited m place)
-      by (inl same) = too.kept (awaited m place) (all place m (sym was ∙ same))
+      by (inl same) = too.kept (awaited m place) (held m same)
       by (inr there) = there
 
   pub awaited_next : AllAwaited next new
@@ -72,3 +78,23 @@ put_awaited at place f agenda none all k m = by (nat_eq k place)
     by : (b : Bool) → due_at (if b then Some f else at k) ≡ Some m → Contains agenda (awaited m k)
     by true due = let no : None ≡ Some m = sym none ∙ due in absurd (cc)
     by false due = all k m due
+
+-- ---- a frame waited in vain
+
+gone : (us : List Unpaired) → drop (length us) (waited_of us) ≡ []
+gone us = ap (λ n. drop n (waited_of us)) (sym (length-map us (λ u. u.waited))) ∙ drop-length (waited_of us)
+
+side_gone : (s : Source) (c : Course) (side : Side) → waiting_of s side c.came ≡ waited_on c side →
+    oldest (still_waiting s c side) ≡ None
+unfolding still_waiting
+side_gone s c side all =
+    ap (λ ys. oldest (drop (length (over c side)) ys)) all ∙ ap oldest (gone (over c side))
+
+-- once all were told, none is next
+pub none_next : (s : Source) (c : Course) → AllTold s c → next_told s c ≡ None
+none_next s c all =
+    ap (λ o. sooner o (oldest (still_waiting s c B))) (side_gone s c A (all A))
+    ∙ ap (λ o. sooner None o) (side_gone s c B (all B))
+
+pub put_others : (at : ByPlace) (place : ℕ) (f : Followed) (k : ℕ) → nat_eq k place ≡ false → put_at place f at k ≡ at k
+put_others at place f k other = ap (λ (b : Bool). if b then Some f else at k) other

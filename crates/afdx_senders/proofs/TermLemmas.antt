@@ -9,7 +9,7 @@ use Rattle.afdx_police.specs.Rule.{rule_with}
 use Rattle.afdx_senders.specs.Sites.{Recorded}
 use Rattle.afdx_senders.specs.Terms.{id_of, is_paired}
 
-port_is : (t : Rows) (system : ℕ) (s : SystemRow) → slice_get t.systems system ≡ Some s → port_of t system ≡ s.port
+pub port_is : (t : Rows) (system : ℕ) (s : SystemRow) → slice_get t.systems system ≡ Some s → port_of t system ≡ s.port
 unfolding port_of
 port_is t system s at = ap (λ o. option_map_or (λ r. r.port) o 0) at
 

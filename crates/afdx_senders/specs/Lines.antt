@@ -1,10 +1,12 @@
 -- What is found of frames, as lines with their moments.
-use Rattle.std.specs.Prelude.{◌≡◌, ℕ, Option, Some, None, option_map, option_to_list}
+use Rattle.std.specs.Prelude.{◌≡◌, ℕ, Bool, if◌then◌else◌, Option, Some, None, option_map, option_to_list}
 use Rattle.std.specs.Prelude.{List, [], ◌∷◌, ◌++◌, map}
 use Rattle.std.specs.List.Sorted.{IsPermutation}
 use Rattle.afdx_frame.specs.Parts.{bytes_of}
 use Rattle.afdx_frame.specs.declared.link.Side.{Side}
-use Rattle.afdx_lawful.specs.Judged.{found_of}
+use Rattle.afdx_lawful.specs.Judged.{found_of, is_cut_of}
+use Rattle.afdx_lawful.specs.Courses.{told_at}
+use Rattle.afdx_lawful.specs.Partners.{Waiting}
 use Rattle.afdx_lawful.specs.OneSide.{told_heard}
 use Rattle.afdx_lawful.specs.declared.finding.SenderFinding.{SenderFinding}
 use Rattle.afdx_lawful.specs.declared.finding.SenderFinding.TheVariants as finding
@@ -93,6 +95,21 @@ MayComeThere x (Some f) = MayCome f x.time
 abbrev pub MayComeTo : ByPlace → SiteFrame → SourceOf → Type 0
 MayComeTo at x (Source place) = MayComeThere x (at place)
 MayComeTo at x whose = Unit {0}
+
+-- that of a frame which waited in vain, where its source's system stands at this port; none, if its
+-- copy may be cut off
+abbrev pub single_line : (port line : ℕ) → Side → (moment : ℕ) → (is_cut : Bool) → List Line
+single_line port line side moment is_cut = if is_cut then [] else record {
+  moment = moment;
+  side = side;
+  port = port;
+  line = line;
+  found = OfSource (finding.Single line ∷ []);
+} ∷ []
+
+abbrev pub lines_single : (port : ℕ) → Followed → Waiting → List Line
+lines_single port f y = single_line port y.frame.line y.frame.side (told_at f.source y)
+    (is_cut_of f.source f.course.came y)
 
 -- these lines are to be told, too
 abbrev pub AddsLines : List Line → List SenderLine → List SenderLine → Type 0

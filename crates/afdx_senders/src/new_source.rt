@@ -3,7 +3,7 @@
 ghost use Rattle.std.specs.Prelude.{◌≡◌, ◌<◌, Some, length, slice_get};
 ghost use Rattle.afdx_config.specs.Rows.{LinkRow};
 ghost use Rattle.afdx_conform.specs.LeewayOf.{leeway_of};
-ghost use Rattle.afdx_law_bounds.specs.Tables.{rule_of as rule_in};
+ghost use Rattle.afdx_law_bounds.specs.Tables.{port_of as port_at, rule_of as rule_in};
 ghost use Rattle.afdx_lawful.specs.Courses.{at_first};
 ghost use Rattle.afdx_lawful.specs.Senders.{StandsFor};
 ghost use Rattle.afdx_lawful.specs.Ways.{IsApart};
@@ -44,6 +44,15 @@ fn rule_at(tables: &Tables, place: usize) -> LinkRule
 }
 
 impl SenderSites<'_> {
+    /// The port of the system that sends the link at this place.
+    pub(crate) fn port_of(&self, place: usize) -> u8
+        requires { place < length self.now.tables.now.links }
+        ensures { (l : LinkRow) → slice_get self.now.tables.now.links place ≡ Some l →
+            result ≡ port_at self.now.tables.now l.from }
+    {
+        self.tables.system(self.tables.link(place).from).port
+    }
+
     /// Whether both sites of the source of the link at this place were recorded.
     fn is_paired(&self, place: usize) -> bool
         requires { place < length self.now.tables.now.links }

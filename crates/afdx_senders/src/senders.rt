@@ -3,13 +3,18 @@
 ghost use Rattle.std.specs.Prelude.{◌≡◌, ◌<◌, List, None, Some, IfOk, OnOk, length, slice_get};
 ghost use Rattle.afdx_config.specs.Rows.{LinkRow};
 ghost use Rattle.afdx_conform.specs.LeewayOf.{leeway_of};
+ghost use Rattle.afdx_law_bounds.specs.Tables.{port_of as port_at};
+ghost use Rattle.afdx_lawful.specs.Courses.{IsKnownBy, next_told};
+ghost use Rattle.afdx_lawful.specs.Partners.{Waiting};
 ghost use Rattle.afdx_lawful.specs.Ways.{IsApart};
 ghost use Rattle.afdx_senders.specs.Terms.{Asked as What, terms_at};
 ghost use Rattle.afdx_lawful.specs.declared.finding.SenderFinding.{SenderFinding as Finding};
-ghost use Rattle.afdx_senders.specs.Followed.{ByPlace, IsFound, newly, nothing_followed, put_at};
+ghost use Rattle.afdx_senders.specs.Followed.{ByPlace, Followed, IsFound, newly};
+ghost use Rattle.afdx_senders.specs.Followed.{nothing_followed, put_at, told_next};
 ghost use Rattle.afdx_senders.specs.Lines.{AddsLines, MayComeThere, MayComeTo, after_came};
 ghost use Rattle.afdx_senders.specs.Lines.{came_there, found_at, found_by, lines_found};
-ghost use Rattle.afdx_senders.specs.Lines.{lines_strayed, some_found, told_line};
+ghost use Rattle.afdx_senders.specs.Lines.{lines_single, lines_strayed, single_line, some_found};
+ghost use Rattle.afdx_senders.specs.Lines.{told_line};
 ghost use Rattle.afdx_senders.specs.Sites.{came_at, recorded_in, source_of};
 ghost use Rattle.afdx_senders.specs.Standing as spec;
 ghost use Rattle.afdx_senders.specs.Standing.{AwaitsToo, SendersStand};
@@ -24,7 +29,7 @@ use crate::stray::stray_of;
 use afdx_config::Tables;
 use afdx_conform::{Leeway, Spare};
 use afdx_frame::Side;
-use afdx_lawful::{Apart, HeardFrame};
+use afdx_lawful::{Apart, HeardFrame, UnpairedFrame};
 use std::alloc::{AllocError, Global};
 
 /// The systems of a switch as senders: the sources that are followed, what was found of their
@@ -82,6 +87,24 @@ fn put_heard(
         return Ok(());
     }
     found.push(line_of(x, ToldOf::Heard(heard)))
+}
+
+/// What is found of a frame that waited in vain is to be told, if anything is. Its source's system
+/// stands at this port.
+fn put_single(found: &mut FoundLines, port: u8, told: UnpairedFrame) -> Result<(), AllocError>
+    ensures { OnOk result (AddsLines
+        (single_line port told.line told.side told.moment told.is_cut) found.old found.new) }
+{
+    if told.is_cut {
+        return Ok(());
+    }
+    found.push(SenderLine {
+        moment: told.moment,
+        side: told.side,
+        port,
+        line: told.line,
+        told: ToldOf::Single,
+    })
 }
 
 /// What is due of the source at this place now is awaited, unless it was due before.
@@ -196,5 +219,30 @@ impl<'a> Senders<'a> {
             SourceOf::Unknown => self.strayed(whose, x),
             SourceOf::Nobody => Ok(()),
         }
+    }
+
+    /// The next frame of the source at this place that waits for its copy waits no longer, if there
+    /// is one. `end` is the time in ns at which the recordings end, once it is known; before, they
+    /// must not end sooner than the moment of what is told. The error says that memory was refused.
+    pub fn tell(&mut self, place: usize, end: Option<u64>) -> Result<(), AllocError>
+        requires { place < length self.old.sites.tables.now.links }
+        ensures stands { (at : ByPlace) (f : Followed) (y : Waiting) → at place ≡ Some f →
+            next_told f.source f.course ≡ Some y → IsKnownBy f.source end y →
+            SendersStand at self.old →
+            OnOk result (SendersStand (put_at place (told_next f y) at) self.new) }
+        ensures found { (at : ByPlace) (f : Followed) (y : Waiting) (l : LinkRow) →
+            slice_get self.old.sites.tables.now.links place ≡ Some l → at place ≡ Some f →
+            next_told f.source f.course ≡ Some y → IsKnownBy f.source end y →
+            SendersStand at self.old → OnOk result (AddsLines
+            (lines_single (port_at self.old.sites.tables.now l.from) f y)
+            self.old.found self.new.found) }
+    {
+        let port = self.sites.port_of(place);
+        let Some(told) = self.kept.tell(place, end) else {
+            return Ok(());
+        };
+        put_single(&mut self.found, port, told)?;
+        let after = self.kept.due(place);
+        put_due(&mut self.agenda, place, None, after)
     }
 }

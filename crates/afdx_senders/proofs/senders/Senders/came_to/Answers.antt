@@ -1,3 +1,4 @@
+use Rattle.std.proofs.Common.{sym, ◌∙◌}
 use Rattle.afdx_senders.specs.Followed.{AreFollowed}
 use Rattle.afdx_senders.specs.Lines.{came_there}
 use Rattle.afdx_senders.proofs.LineLemmas.{found_next}
@@ -16,7 +17,8 @@ returns-clause-stands c at may stand =
       followed = followed;
       agenda = awaited_next at next place c.due-before.result c.due-after.result c.args.self.now.agenda
           c.put_due.new.agenda (λ k other. came_others at x place (at place) k other)
-          (c.due-before.ensures at stand.followed) (c.due-after.ensures next followed) too stand.agenda;
+          (λ m was. stand.agenda place m (sym (c.due-before.ensures at stand.followed) ∙ was))
+          (c.due-after.ensures next followed) too stand.agenda;
     }) c.put_due.result c.put_due.ensures
 
 pub returns-clause-found : goal.returns-clause-found
