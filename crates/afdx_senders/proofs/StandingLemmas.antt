@@ -38,7 +38,8 @@ AwaitedBut but at agenda = (place m : ℕ) → nat_eq place but ≡ false → du
 module _ (at next : ByPlace) (place : ℕ) (before after : Option ℕ) (old new : List SenderLine)
     (others : (k : ℕ) → nat_eq k place ≡ false → next k ≡ at k)
     (held : (m : ℕ) → before ≡ Some m → Contains old (awaited m place))
-    (is : after ≡ due_at (next place)) (too : AwaitsToo place before after old new) (all : AwaitedBut place at old) where
+    (is : after ≡ due_at (next place)) (too : AwaitsToo place before after old new)
+    (all : AwaitedBut place at old) where
   here : (m : ℕ) → due_at (next place) ≡ Some m → Contains new (awaited m place)
   here m due = by (too.due m (is ∙ due))
     where
@@ -124,7 +125,8 @@ module _ (at : ByPlace) (e : SenderLine) (old rest : List SenderLine) (moved : I
   -- all others still are
   pub others_awaited : AwaitedBut e.line at rest
   others_awaited k m other due =
-      still_awaited k m (λ is. true≢false (sym (eq-eqb k e.line (ap (λ (x : SenderLine). x.line) (sym is))) ∙ other)) due
+      still_awaited k m
+      (λ is. true≢false (sym (eq-eqb k e.line (ap (λ (x : SenderLine). x.line) (sym is))) ∙ other)) due
 
 pub same_before : (before : Option ℕ) (x y : SenderLine) → x.moment ≡ y.moment → is_before before x ≡ is_before before y
 same_before None x y same = refl

@@ -8,7 +8,9 @@ ghost use Rattle.afdx_conform.specs.LeewayOf.{leeway_of};
 ghost use Rattle.afdx_law_bounds.specs.Tables.{port_of as port_at};
 ghost use Rattle.afdx_lawful.specs.Courses.{IsKnownBy, next_told};
 ghost use Rattle.afdx_lawful.specs.Partners.{Waiting};
+ghost use Rattle.afdx_lawful.specs.Tallies.{counted};
 ghost use Rattle.afdx_lawful.specs.Ways.{IsApart};
+ghost use Rattle.afdx_senders.specs.Counting.{AreOver, cut_below, sent_below};
 ghost use Rattle.afdx_senders.specs.Terms.{Asked as What, terms_at};
 ghost use Rattle.afdx_lawful.specs.declared.finding.SenderFinding.{SenderFinding as Finding};
 ghost use Rattle.afdx_senders.specs.Followed.{ByPlace, Followed, IsFound, newly};
@@ -32,7 +34,7 @@ use crate::stray::stray_of;
 use afdx_config::Tables;
 use afdx_conform::{Leeway, Spare};
 use afdx_frame::Side;
-use afdx_lawful::{Apart, HeardFrame, UnpairedFrame};
+use afdx_lawful::{Apart, HeardFrame, SourceCounts, UnpairedFrame};
 use std::alloc::{AllocError, Global};
 
 /// The systems of a switch as senders: the sources that are followed, what was found of their
@@ -286,5 +288,16 @@ impl<'a> Senders<'a> {
         put_single(&mut self.found, port, told)?;
         let after = self.kept.due(place);
         put_due(&mut self.agenda, place, None, after)
+    }
+
+    /// What is counted of all sources once none of their frames waits, of fewer than 2^64 frames
+    /// each. Neither number goes beyond the greatest one.
+    pub fn counts(&self) -> SourceCounts
+        ensures sent { (at : ByPlace) → SendersStand at self.now → AreOver at →
+            result.sent ≡ counted (sent_below at (length self.now.kept.slots.items)) }
+        ensures cut { (at : ByPlace) → SendersStand at self.now → AreOver at →
+            result.cut ≡ counted (cut_below at (length self.now.kept.slots.items)) }
+    {
+        self.kept.counts()
     }
 }
