@@ -1,8 +1,12 @@
 -- What is awaited of the sources, once a frame came to one of them.
-use Rattle.std.proofs.Common.{length, drop, [], ◌≡◌, ℕ, List, Bool, true, false, refl, sym, ap, ◌∙◌, subst, inl, inr}
-use Rattle.std.proofs.lemmas.Bool.{eqb-true}
+use Rattle.std.proofs.Common.{◌∷◌, true≢false, length, drop, [], ◌≡◌, ℕ, List, Bool, true, false, refl, sym, ap, ◌∙◌, subst, inl, inr}
+use Rattle.std.proofs.lemmas.Bool.{eq-eqb, eqb-true}
+use Rattle.std.proofs.lemmas.List.Sorted.{Contains-permutation}
+use Rattle.std.proofs.lemmas.Map.Made.{Contains-tail}
+use Rattle.std.specs.List.Sorted.{IsPermutation}
 use Rattle.std.specs.List.{Contains}
-use Rattle.std.specs.Prelude.{nat_eq, if◌then◌else◌, Option, Some, None, ◌⊎◌, Result, Ok, Err, OnOk}
+use Rattle.afdx_senders.specs.Order.{is_before}
+use Rattle.std.specs.Prelude.{nat_eq, nat_lt, if◌then◌else◌, Option, Some, None, ◌⊎◌, Result, Ok, Err, OnOk}
 use Rattle.afdx_lawful.specs.Courses.{AllTold, Course, Unpaired, over, waited_of, waited_on, at_first, next_told, oldest, sooner, still_waiting}
 use Rattle.afdx_lawful.specs.Judged.{waiting_of}
 use Rattle.afdx_lawful.specs.Partners.{waiting}
@@ -26,10 +30,16 @@ on_ok f (Err e) p = tt
 abbrev pub AllAwaited : ByPlace → List SenderLine → Type 0
 AllAwaited at agenda = (place m : ℕ) → due_at (at place) ≡ Some m → Contains agenda (awaited m place)
 
+-- but that of the source at a place
+abbrev pub AwaitedBut : ℕ → ByPlace → List SenderLine → Type 0
+AwaitedBut but at agenda = (place m : ℕ) → nat_eq place but ≡ false → due_at (at place) ≡ Some m →
+    Contains agenda (awaited m place)
+
 module _ (at next : ByPlace) (place : ℕ) (before after : Option ℕ) (old new : List SenderLine)
     (others : (k : ℕ) → nat_eq k place ≡ false → next k ≡ at k)
     (held : (m : ℕ) → before ≡ Some m → Contains old (awaited m place))
-    (is : after ≡ due_at (next place)) (too : AwaitsToo place before after old new) (all : AllAwaited at old) where
+    (is : after ≡ due_at (next place)) (too : AwaitsToo place before after old new)
+    (all : AwaitedBut place at old) where
   here : (m : ℕ) → due_at (next place) ≡ Some m → Contains new (awaited m place)
   here m due = by (too.due m (is ∙ due))
     where
@@ -45,7 +55,7 @@ module _ (at next : ByPlace) (place : ℕ) (before after : Option ℕ) (old new 
           let e = eqb-true k place same in
           subst (λ n. Contains new (awaited m n)) (sym e)
           (here m (subst (λ n. due_at (next n) ≡ Some m) e due))
-      by false other = too.kept (awaited m k) (all k m (ap due_at (sym (others k other)) ∙ due))
+      by false other = too.kept (awaited m k) (all k m other (ap due_at (sym (others k other)) ∙ due))
 
 module _ (at : ByPlace) (x : SiteFrame) (place : ℕ) where
   pub came_others : (o : Option Followed) (k : ℕ) → nat_eq k place ≡ false → came_there at x place o k ≡ at k
@@ -98,3 +108,26 @@ none_next s c all =
 
 pub put_others : (at : ByPlace) (place : ℕ) (f : Followed) (k : ℕ) → nat_eq k place ≡ false → put_at place f at k ≡ at k
 put_others at place f k other = ap (λ (b : Bool). if b then Some f else at k) other
+
+-- ---- one is taken off the agenda
+
+module _ (at : ByPlace) (e : SenderLine) (old rest : List SenderLine) (moved : IsPermutation old (e ∷ rest))
+    (all : AllAwaited at old) where
+  still_awaited : (k m : ℕ) → (e ≡ awaited m k → ⊥) → due_at (at k) ≡ Some m → Contains rest (awaited m k)
+  still_awaited k m other due =
+      Contains-tail e rest (awaited m k) other (Contains-permutation old (e ∷ rest) (awaited m k) moved (all k m due))
+
+  -- another time is due there
+  pub stale_awaited : (due_at (at e.line) ≡ Some e.moment → ⊥) → AllAwaited at rest
+  stale_awaited stale k m due =
+      still_awaited k m (λ is. stale (subst (λ (x : SenderLine). due_at (at x.line) ≡ Some x.moment) (sym is) due)) due
+
+  -- all others still are
+  pub others_awaited : AwaitedBut e.line at rest
+  others_awaited k m other due =
+      still_awaited k m
+      (λ is. true≢false (sym (eq-eqb k e.line (ap (λ (x : SenderLine). x.line) (sym is))) ∙ other)) due
+
+pub same_before : (before : Option ℕ) (x y : SenderLine) → x.moment ≡ y.moment → is_before before x ≡ is_before before y
+same_before None x y same = refl
+same_before (Some time) x y same = ap (λ m. nat_lt m time) same

@@ -44,12 +44,14 @@ fn rule_at(tables: &Tables, place: usize) -> LinkRule
 }
 
 impl SenderSites<'_> {
-    /// The port of the system that sends the link at this place.
+    /// The port of the system that sends the link at this place; 0 if there is no link.
     pub(crate) fn port_of(&self, place: usize) -> u8
-        requires { place < length self.now.tables.now.links }
         ensures { (l : LinkRow) → slice_get self.now.tables.now.links place ≡ Some l →
             result ≡ port_at self.now.tables.now l.from }
     {
+        if place >= self.tables.link_count() {
+            return 0;
+        }
         self.tables.system(self.tables.link(place).from).port
     }
 

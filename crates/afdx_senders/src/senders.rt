@@ -1,12 +1,16 @@
 //! The systems of a switch, judged as senders while frames come at its ports.
 
-ghost use Rattle.std.specs.Prelude.{◌≡◌, ◌<◌, List, None, Some, IfOk, OnOk, length, slice_get};
+ghost use Rattle.std.specs.Prelude.{◌≡◌, ◌<◌, ◌≤◌, ◌∷◌, All, List, None, Some};
+ghost use Rattle.std.specs.Prelude.{IfNone, IfOk, IfSome, IsTrue, OnOk, ◌↔◌, length, slice_get};
+ghost use Rattle.std.specs.List.Sorted.{IsPermutation};
 ghost use Rattle.afdx_config.specs.Rows.{LinkRow};
 ghost use Rattle.afdx_conform.specs.LeewayOf.{leeway_of};
 ghost use Rattle.afdx_law_bounds.specs.Tables.{port_of as port_at};
 ghost use Rattle.afdx_lawful.specs.Courses.{IsKnownBy, next_told};
 ghost use Rattle.afdx_lawful.specs.Partners.{Waiting};
+ghost use Rattle.afdx_lawful.specs.Tallies.{counted};
 ghost use Rattle.afdx_lawful.specs.Ways.{IsApart};
+ghost use Rattle.afdx_senders.specs.Counting.{AreOver, cut_below, sent_below};
 ghost use Rattle.afdx_senders.specs.Terms.{Asked as What, terms_at};
 ghost use Rattle.afdx_lawful.specs.declared.finding.SenderFinding.{SenderFinding as Finding};
 ghost use Rattle.afdx_senders.specs.Followed.{ByPlace, Followed, IsFound, newly};
@@ -15,9 +19,10 @@ ghost use Rattle.afdx_senders.specs.Lines.{AddsLines, MayComeThere, MayComeTo, a
 ghost use Rattle.afdx_senders.specs.Lines.{came_there, found_at, found_by, lines_found};
 ghost use Rattle.afdx_senders.specs.Lines.{lines_single, lines_strayed, single_line, some_found};
 ghost use Rattle.afdx_senders.specs.Lines.{told_line};
+ghost use Rattle.afdx_senders.specs.Order.{AreNotBefore, IsBefore, rank_of};
 ghost use Rattle.afdx_senders.specs.Sites.{came_at, recorded_in, source_of};
 ghost use Rattle.afdx_senders.specs.Standing as spec;
-ghost use Rattle.afdx_senders.specs.Standing.{AwaitsToo, SendersStand};
+ghost use Rattle.afdx_senders.specs.Standing.{AwaitsToo, IsDue, IsNothingDue, SendersStand, SendersStandBut};
 
 use crate::followed::FollowedSources;
 use crate::found_lines::FoundLines;
@@ -29,7 +34,7 @@ use crate::stray::stray_of;
 use afdx_config::Tables;
 use afdx_conform::{Leeway, Spare};
 use afdx_frame::Side;
-use afdx_lawful::{Apart, HeardFrame, UnpairedFrame};
+use afdx_lawful::{Apart, HeardFrame, SourceCounts, UnpairedFrame};
 use std::alloc::{AllocError, Global};
 
 /// The systems of a switch as senders: the sources that are followed, what was found of their
@@ -123,6 +128,13 @@ fn put_due(
         Some(moment) => agenda.push(awaited(moment, place)),
         None => Ok(()),
     }
+}
+
+/// Whether that is due at this moment.
+fn is_moment(due: Option<u64>, moment: u64) -> bool
+    ensures { IsTrue result ↔ (due ≡ Some moment) }
+{
+    due == Some(moment)
 }
 
 impl<'a> Senders<'a> {
@@ -221,19 +233,51 @@ impl<'a> Senders<'a> {
         }
     }
 
+    /// The place of the next source of which a frame waits no longer, if that moment lies before
+    /// that time, in ns; without a time whenever it is. It has to be told then (`tell`).
+    pub fn take_due(&mut self, before: Option<u64>) -> Option<usize>
+        ensures due { (at : ByPlace) → SendersStand at self.old → IfSome result (λ place.
+            IsDue before at place × SendersStandBut place at self.new) }
+        ensures none { (at : ByPlace) → SendersStand at self.old →
+            IfNone result (SendersStand at self.new × IsNothingDue before at) }
+        ensures found { self.new.found ≡ self.old.found }
+        ensures kept { self.new.kept ≡ self.old.kept }
+        ensures sites { self.new.sites ≡ self.old.sites }
+    {
+        while let Some(entry) = self.agenda.take_before(before) {
+            let place = entry.line as usize;
+            if is_moment(self.kept.due(place), entry.moment) {
+                return Some(place);
+            }
+        }
+        None
+    }
+
+    /// The next line that is to be told, if its moment lies before that time, in ns; without a time
+    /// whenever it is. All that is due before has to be told first (`take_due`).
+    pub fn take_line(&mut self, before: Option<u64>) -> Option<SenderLine>
+        ensures first { IfSome result (λ x. All (λ y. rank_of x ≤ rank_of y) self.new.found) }
+        ensures in_time { IfSome result (IsBefore before) }
+        ensures rest { IfSome result (λ x. IsPermutation self.old.found (x ∷ self.new.found)) }
+        ensures none { IfNone result (AreNotBefore before self.old.found) }
+        ensures same { IfNone result (self.new ≡ self.old) }
+        ensures stands { (at : ByPlace) → SendersStand at self.old → SendersStand at self.new }
+    {
+        self.found.take_before(before)
+    }
+
     /// The next frame of the source at this place that waits for its copy waits no longer, if there
     /// is one. `end` is the time in ns at which the recordings end, once it is known; before, they
     /// must not end sooner than the moment of what is told. The error says that memory was refused.
     pub fn tell(&mut self, place: usize, end: Option<u64>) -> Result<(), AllocError>
-        requires { place < length self.old.sites.tables.now.links }
         ensures stands { (at : ByPlace) (f : Followed) (y : Waiting) → at place ≡ Some f →
             next_told f.source f.course ≡ Some y → IsKnownBy f.source end y →
-            SendersStand at self.old →
+            SendersStandBut place at self.old →
             OnOk result (SendersStand (put_at place (told_next f y) at) self.new) }
         ensures found { (at : ByPlace) (f : Followed) (y : Waiting) (l : LinkRow) →
             slice_get self.old.sites.tables.now.links place ≡ Some l → at place ≡ Some f →
             next_told f.source f.course ≡ Some y → IsKnownBy f.source end y →
-            SendersStand at self.old → OnOk result (AddsLines
+            SendersStandBut place at self.old → OnOk result (AddsLines
             (lines_single (port_at self.old.sites.tables.now l.from) f y)
             self.old.found self.new.found) }
     {
@@ -244,5 +288,16 @@ impl<'a> Senders<'a> {
         put_single(&mut self.found, port, told)?;
         let after = self.kept.due(place);
         put_due(&mut self.agenda, place, None, after)
+    }
+
+    /// What is counted of all sources once none of their frames waits, of fewer than 2^64 frames
+    /// each. Neither number goes beyond the greatest one.
+    pub fn counts(&self) -> SourceCounts
+        ensures sent { (at : ByPlace) → SendersStand at self.now → AreOver at →
+            result.sent ≡ counted (sent_below at (length self.now.kept.slots.items)) }
+        ensures cut { (at : ByPlace) → SendersStand at self.now → AreOver at →
+            result.cut ≡ counted (cut_below at (length self.now.kept.slots.items)) }
+    {
+        self.kept.counts()
     }
 }
