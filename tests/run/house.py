@@ -17,12 +17,12 @@
   crate that hands it on (MEMORY).
 - Each source file is one that `rt ci` reads, of a crate of crates.txt, or it would refuse all.
 - Each source file says at its head what it is; lines of definitions, of contracts, of code and of
-  scripts have at most 100 columns, those of proofs at most 140; imports and what is to be unfolded
+  scripts have at most 100 columns, those of proofs at most 120; imports and what is to be unfolded
   may be wider, what bin/pages prints into a script, and the tables of numbers in
   afdx_frame/src/tables.rt.
 - A clause has at most 400 characters and eight lines, a function takes at most six values beside
-  `self` and has at most 40 lines, a line of a proof has at most 120 columns. Where there still are
-  others, there are just as many as is said here (LARGE); fewer are to be said, too.
+  `self` and has at most 40 lines. Where there still are others, there are just as many as is said
+  here (LARGE); fewer are to be said, too.
 - No two crates have a type of one name; crates of tests aside.
 - Each definition of specs/ and each lemma is reached by what a function promises or by a proof, and
   each export of a crate is named by another crate. Where some aren't, SPARE says how many.
@@ -49,7 +49,7 @@ DOCUMENTS += ["docs/LIBRARIES.md", "docs/DECISIONS.md", "tests/README.md"]
 FAULTS = CRATES / "afdx_input_lines/src"
 CALLS = CRATES / "afdx_test_runs/src/surface"
 COLUMNS = 100
-PROOF_COLUMNS = 140
+PROOF_COLUMNS = 120
 PRINTED = "# printed by bin/pages"  # from such a line on, down to one that begins so
 NUMBERS = CRATES / "afdx_frame/src/tables.rt"
 # the functions, beside each `from`, that may name an AllocError or a fault's Memory as a value
@@ -64,7 +64,7 @@ MEMORY = {
     "crates/afdx_text/src/line.rt": {"room_wanted"},
 }
 # how many are still larger than they may be
-LARGE = {"clauses": 0, "values": 3, "bodies": 0, "lines of proofs": 0}
+LARGE = {"clauses": 0, "values": 3, "bodies": 0}
 # how many may still go
 SPARE = {"definitions that nothing reaches": 0, "exports that no other crate names": 3}
 OF_TWO = ["{1} {0}", "list {0} {1}"]  # the forms of one of two recordings, and of two lists
@@ -273,7 +273,6 @@ def large() -> dict[str, list[str]]:
                 found["values"].append(f"{name} takes {function.values} values")
             if len(function.body) > 40:
                 found["bodies"].append(f"{name} has {len(function.body)} lines")
-    found["lines of proofs"] = wide_lines(120, "crates/*/proofs/**/*.antt")
     return found
 
 
@@ -322,7 +321,7 @@ def main() -> int:
         "columns of code": wide_lines(COLUMNS, "crates/*/src/**/*.rt"),
         "columns of proofs": wide_lines(PROOF_COLUMNS, "crates/*/proofs/**/*.antt"),
         "columns of scripts": wide_lines(COLUMNS, *SCRIPTS),
-        "sizes of clauses, functions and proofs": other_counts(large(), LARGE, "LARGE"),
+        "sizes of clauses and functions": other_counts(large(), LARGE, "LARGE"),
         "names of types": shared_names(),
         "what nothing names": other_counts(spare(), SPARE, "SPARE"),
     }
