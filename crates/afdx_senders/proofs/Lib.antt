@@ -5,3 +5,4 @@ pub mod CountingLemmas
 pub mod OrderLemmas
 pub mod LineLemmas
 pub mod StandingLemmas
+pub mod SettlingLemmas

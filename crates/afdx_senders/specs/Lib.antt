@@ -6,3 +6,4 @@ pub mod Counting
 pub mod Order
 pub mod Lines
 pub mod Standing
+pub mod Settling

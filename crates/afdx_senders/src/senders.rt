@@ -2,6 +2,7 @@
 
 ghost use Rattle.std.specs.Prelude.{◌≡◌, ◌<◌, ◌≤◌, ◌∷◌, All, List, None, Some};
 ghost use Rattle.std.specs.Prelude.{IfNone, IfOk, IfSome, IsTrue, OnOk, ◌↔◌, length, slice_get};
+ghost use Rattle.std.specs.Prelude.{ℕ, true};
 ghost use Rattle.std.specs.List.Sorted.{IsPermutation};
 ghost use Rattle.afdx_config.specs.Rows.{LinkRow};
 ghost use Rattle.afdx_conform.specs.LeewayOf.{leeway_of};
@@ -10,7 +11,7 @@ ghost use Rattle.afdx_lawful.specs.Courses.{IsKnownBy, next_told};
 ghost use Rattle.afdx_lawful.specs.Partners.{Waiting};
 ghost use Rattle.afdx_lawful.specs.Tallies.{counted};
 ghost use Rattle.afdx_lawful.specs.Ways.{IsApart};
-ghost use Rattle.afdx_senders.specs.Counting.{AreOver, cut_below, sent_below};
+ghost use Rattle.afdx_senders.specs.Counting.{AreOver, cut_below, held_in_all, sent_below};
 ghost use Rattle.afdx_senders.specs.Terms.{Asked as What, terms_at};
 ghost use Rattle.afdx_lawful.specs.declared.finding.SenderFinding.{SenderFinding as Finding};
 ghost use Rattle.afdx_senders.specs.Followed.{ByPlace, Followed, IsFound, newly};
@@ -21,6 +22,8 @@ ghost use Rattle.afdx_senders.specs.Lines.{lines_single, lines_strayed, single_l
 ghost use Rattle.afdx_senders.specs.Lines.{told_line};
 ghost use Rattle.afdx_senders.specs.Order.{AreNotBefore, IsBefore, rank_of};
 ghost use Rattle.afdx_senders.specs.Sites.{came_at, recorded_in, source_of};
+ghost use Rattle.afdx_senders.specs.Settling.{AreSources, IsEnd, Settled, Step, TakesFirst};
+ghost use Rattle.afdx_senders.specs.Settling.{lines_told};
 ghost use Rattle.afdx_senders.specs.Standing as spec;
 ghost use Rattle.afdx_senders.specs.Standing.{AwaitsToo, IsDue, IsNothingDue, SendersStand, SendersStandBut};
 
@@ -262,14 +265,16 @@ impl<'a> Senders<'a> {
         ensures none { IfNone result (AreNotBefore before self.old.found) }
         ensures same { IfNone result (self.new ≡ self.old) }
         ensures stands { (at : ByPlace) → SendersStand at self.old → SendersStand at self.new }
+        ensures sites { self.new.sites ≡ self.old.sites }
     {
         self.found.take_before(before)
     }
 
     /// The next frame of the source at this place that waits for its copy waits no longer, if there
-    /// is one. `end` is the time in ns at which the recordings end, once it is known; before, they
-    /// must not end sooner than the moment of what is told. The error says that memory was refused.
-    pub fn tell(&mut self, place: usize, end: Option<u64>) -> Result<(), AllocError>
+    /// is one: whether one waited. `end` is the time in ns at which the recordings end, once it is
+    /// known; before, they must not end sooner than the moment of what is told. The error says that
+    /// memory was refused.
+    pub fn tell(&mut self, place: usize, end: Option<u64>) -> Result<bool, AllocError>
         ensures stands { (at : ByPlace) (f : Followed) (y : Waiting) → at place ≡ Some f →
             next_told f.source f.course ≡ Some y → IsKnownBy f.source end y →
             SendersStandBut place at self.old →
@@ -280,14 +285,59 @@ impl<'a> Senders<'a> {
             SendersStandBut place at self.old → OnOk result (AddsLines
             (lines_single (port_at self.old.sites.tables.now l.from) f y)
             self.old.found self.new.found) }
+        ensures waited { (at : ByPlace) (f : Followed) (y : Waiting) → at place ≡ Some f →
+            next_told f.source f.course ≡ Some y → SendersStandBut place at self.old →
+            IfOk result (λ waited. waited ≡ true) }
+        ensures less { IfOk result (λ waited. waited ≡ true →
+            held_in_all self.new.kept < held_in_all self.old.kept) }
+        ensures sites { self.new.sites ≡ self.old.sites }
     {
         let port = self.sites.port_of(place);
         let Some(told) = self.kept.tell(place, end) else {
-            return Ok(());
+            return Ok(false);
         };
         put_single(&mut self.found, port, told)?;
         let after = self.kept.due(place);
-        put_due(&mut self.agenda, place, None, after)
+        put_due(&mut self.agenda, place, None, after)?;
+        Ok(true)
+    }
+
+    /// All frames wait no longer whose moment lies before that time, in ns; without a time all that
+    /// wait. `end` is the time in ns at which the recordings end, once it is known; before, they
+    /// must not end sooner than `before`. The error says that memory was refused.
+    fn settle(&mut self, before: Option<u64>, end: Option<u64>) -> Result<(), AllocError>
+        ensures settled { let t = self.old.sites.tables.now in (at : ByPlace) (until : ℕ) →
+            SendersStand at self.old → AreSources t until at → IsEnd end before until →
+            OnOk result ((steps : List Step) × Settled t before at steps self.new
+            × AddsLines (lines_told t steps) self.old.found self.new.found) }
+        ensures sites { self.new.sites ≡ self.old.sites }
+    {
+        while let Some(place) = self.take_due(before) {
+            let waited = self.tell(place, end)?;
+            if !waited {
+                return Ok(());
+            }
+        }
+        Ok(())
+    }
+
+    /// The next line of all, if its moment lies before that time, in ns; without a time whenever it
+    /// is. All that is due before is told first. `end` is the time in ns at which the recordings
+    /// end, once it is known; before, they must not end sooner than `before`. The error says that
+    /// memory was refused.
+    pub fn next(
+        &mut self,
+        before: Option<u64>,
+        end: Option<u64>,
+    ) -> Result<Option<SenderLine>, AllocError>
+        ensures first { let t = self.old.sites.tables.now in (at : ByPlace) (until : ℕ) →
+            SendersStand at self.old → AreSources t until at → IsEnd end before until →
+            IfOk result (λ line. (steps : List Step) × Settled t before at steps self.new
+            × TakesFirst before (lines_told t steps) self.old.found line self.new.found) }
+        ensures sites { self.new.sites ≡ self.old.sites }
+    {
+        self.settle(before, end)?;
+        Ok(self.take_line(before))
     }
 
     /// What is counted of all sources once none of their frames waits, of fewer than 2^64 frames
