@@ -1,7 +1,7 @@
 //! The sources that are followed, by their links' places.
 
 ghost use Rattle.std.specs.Prelude.{◌≡◌, ◌<◌, Option, length, None, Some};
-ghost use Rattle.std.specs.Prelude.{IfNone, IfOk, IfSome, OnErr, OnOk};
+ghost use Rattle.std.specs.Prelude.{IfNone, IfOk, IfSome, OnErr, OnOk, is_some};
 ghost use Rattle.afdx_lawful.specs.Courses.{AllTold, IsKnownBy, next_told};
 ghost use Rattle.afdx_lawful.specs.Judged.{found_of};
 ghost use Rattle.afdx_lawful.specs.Partners.{Waiting};
@@ -143,6 +143,19 @@ impl FollowedSources {
             counts.cut = counts.cut.saturating_add(own.cut);
         }
         counts
+    }
+
+    /// Whether a source is followed at this place.
+    pub fn has(&self, place: usize) -> bool
+        ensures { (at : ByPlace) → AreFollowed at self.now → result ≡ is_some (at place) }
+    {
+        if place >= self.slots.len() {
+            return false;
+        }
+        match &self.slots[place] {
+            Some(_) => true,
+            None => false,
+        }
     }
 
     /// The moment in ns at which the next frame of the source at this place is told that waits for

@@ -56,7 +56,7 @@ impl SenderSites<'_> {
     }
 
     /// Whether both sites of the source of the link at this place were recorded.
-    fn is_paired(&self, place: usize) -> bool
+    pub(crate) fn is_paired(&self, place: usize) -> bool
         requires { place < length self.now.tables.now.links }
         ensures { (l : LinkRow) → slice_get self.now.tables.now.links place ≡ Some l →
             result ≡ spec.is_paired self.now.tables.now (recorded_in self.now.recorded) l }

@@ -11,7 +11,8 @@ ghost use Rattle.afdx_lawful.specs.Courses.{IsKnownBy, next_told};
 ghost use Rattle.afdx_lawful.specs.Partners.{Waiting};
 ghost use Rattle.afdx_lawful.specs.Tallies.{counted};
 ghost use Rattle.afdx_lawful.specs.Ways.{IsApart};
-ghost use Rattle.afdx_senders.specs.Counting.{AreOver, cut_below, held_in_all, sent_below};
+ghost use Rattle.afdx_senders.specs.Counting.{AreOver, alone_below, cut_below, held_in_all, sent_below};
+ghost use Rattle.afdx_senders.specs.Counting.{is_alone as is_alone_at};
 ghost use Rattle.afdx_senders.specs.Terms.{Asked as What, terms_at};
 ghost use Rattle.afdx_lawful.specs.declared.finding.SenderFinding.{SenderFinding as Finding};
 ghost use Rattle.afdx_senders.specs.Followed.{ByPlace, Followed, IsFound, newly};
@@ -349,5 +350,30 @@ impl<'a> Senders<'a> {
             result.cut ≡ counted (cut_below at (length self.now.kept.slots.items)) }
     {
         self.kept.counts()
+    }
+
+    /// Whether a source is followed at this place, of which not both sites were recorded.
+    fn is_alone(&self, place: usize) -> bool
+        requires { place < length self.now.sites.tables.now.links }
+        ensures { (at : ByPlace) → SendersStand at self.now → result ≡ is_alone_at
+            self.now.sites.tables.now (recorded_in self.now.sites.recorded) place (at place) }
+    {
+        let has = self.kept.has(place);
+        let is_paired = self.sites.is_paired(place);
+        has && !is_paired
+    }
+
+    /// How many sources are followed of which not both sites were recorded.
+    pub fn alone(&self) -> usize
+        ensures { let t = self.now.sites.tables.now in (at : ByPlace) → SendersStand at self.now →
+            result ≡ alone_below t (recorded_in self.now.sites.recorded) at (length t.links) }
+    {
+        let mut count = 0;
+        for place in 0..self.sites.tables.link_count() {
+            if self.is_alone(place) {
+                count += 1;
+            }
+        }
+        count
     }
 }
