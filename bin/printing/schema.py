@@ -1,5 +1,5 @@
 """The JSON schema of a configuration, for editors that check TOML by one, from the tables of keys
-in crates/afdx_config/src/key_tables.rt: names, ranges, words and what each key is."""
+of afdx_config: names, ranges, words and what each key is."""
 from __future__ import annotations
 
 import json
@@ -7,7 +7,7 @@ import re
 
 from printing.sources import TOP, text_of
 
-TABLES = TOP / "crates/afdx_config/src/key_tables.rt"
+TABLES = [TOP / f"crates/afdx_config/src/{name}.rt" for name in ("key_tables", "cascade_keys")]
 TABLE = re.compile(r"^pub const ([A-Z]+)_KEYS: \[Key; \d+\] = \[(.*?)^\];", re.S | re.M)
 TEXT = r'"(?:[^"\\]|\\.)*"'
 KEY = re.compile(rf'\(\s*"(\w+)",\s*(\d+),\s*(\d+),\s*({TEXT}),\s*([A-Z_]+|{TEXT}),?\s*\)', re.S)
@@ -68,7 +68,7 @@ def closed(keys: Schema, needed: list[str]) -> Schema:
 
 def printed() -> str:
     """The schema."""
-    source = text_of(TABLES)
+    source = "\n".join(text_of(table) for table in TABLES)
     parts = {part: part_of(body, source) for part, body in TABLE.findall(source)}
     switches = parts["CASCADE"][0].pop("switch")
     top, profile = parts["TOP"][0], parts["TOP"][0]["profile"]

@@ -6,37 +6,12 @@ import itertools
 import re
 from typing import Callable, Iterator, NamedTuple
 
-from tables import tomllib
+from tables import KEY_ROWS, LEFT_OUT, SWITCH_ROWS, tomllib
 
 BAGS = (1, 2, 4, 8, 16, 32, 64, 128)
 MOST_LINES, LONGEST_LINE, LATEST = 1_000_000, 4_200, 10**15
-# of each part its keys by their numbers, with the least and the greatest value; of a text or an
-# array of its length, of tables of their count; where a text is one of two words 0 and 0
-KEY_ROWS = {
-    "top": {
-        "profile": (1, 2), "buffer": (64, 4_194_304), "system": (0, 24), "link": (0, 4_096),
-        "port": (0, 4_096),
-    },
-    "system": {
-        "name": (1, 16), "port": (1, 24), "id": (0, 65_535), "partition": (0, 255),
-        "rate": (10, 1_000),
-    },
-    "link": {
-        "vl": (0, 65_535), "from": (1, 16), "to": (1, 24), "bag_ms": (1, 128), "lmin": (64, 1_518),
-        "lmax": (64, 1_518), "jitter_us": (0, 128_000), "priority": (0, 0), "policing": (0, 0),
-        "latency_us": (1, 100_000), "skew_us": (1, 100_000), "subs": (1, 4),
-    },
-    "port": {
-        "system": (1, 16), "link": (0, 65_535), "udp": (1, 65_535), "kind": (0, 0),
-        "depth": (1, 64),
-    },
-}
+# of each part the names of its keys by their numbers; of all parts, and the range of each key
 KEYS = {part: list(rows) for part, rows in KEY_ROWS.items()}
-# the same of a file of several switches: of the top of a switch, and of its neighbours
-SWITCH_ROWS = {
-    "switch": KEY_ROWS["top"] | {"name": (1, 16), "neighbour": (0, 23)},
-    "neighbour": {"name": (1, 16), "port": (1, 24), "rate": (10, 1_000)},
-}
 ALL_KEYS = KEYS | {part: list(rows) for part, rows in SWITCH_ROWS.items()}
 RANGES = {
     (part, key): rows[key] for part, rows in (KEY_ROWS | SWITCH_ROWS).items() for key in rows
@@ -171,7 +146,8 @@ def row_faults(tables: dict, part: str, place: int) -> Iterator[Fault]:
     row = tables[part][place]
     for number, key in enumerate(ALL_KEYS[part], 1):
         if key not in row:
-            yield Fault("Missing", part, place + 1, number)
+            if key not in LEFT_OUT.get(part, ()):
+                yield Fault("Missing", part, place + 1, number)
             continue
         if not is_of_kind(part, key, row[key]):
             yield Fault("WrongKind", part, place + 1, number)

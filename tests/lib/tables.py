@@ -1,8 +1,10 @@
-"""Configurations: their rows, of which a test says what it is about and no more, and their text.
+"""Configurations: their keys, their rows, of which a test says what it is about and no more, and
+their text.
 
-All keys of a row stand here alone: in `link_of`, `system_of`, `port_of`, `cable_of`, `switch_of`
-and `tables_of`, with what they are where a test says nothing. `KEYS` has the words of these that
-are other than the keys; `with_values` and the changes of cascades take the words too.
+All keys stand here alone. `KEY_ROWS` and `SWITCH_ROWS` have their ranges, `LEFT_OUT` those that may
+be absent; `link_of`, `system_of`, `port_of`, `cable_of`, `switch_of` and `tables_of` have what they
+are where a test says nothing. `KEYS` has the words of these that are other than the keys;
+`with_values` and the changes of cascades take the words too.
 
     python3 -B tests/lib/tables.py NAME COUNT
 
@@ -20,6 +22,36 @@ EXAMPLES = os.path.join(TOP, "examples")
 KEYS = {
     "sender": "from", "bag": "bag_ms", "jitter": "jitter_us", "latency": "latency_us",
     "skew": "skew_us",
+}  # fmt: skip
+# of each part its keys by their numbers, with the least and the greatest value; of a text or an
+# array of its length, of tables of their count; where a text is one of two words 0 and 0
+KEY_ROWS = {
+    "top": {
+        "profile": (1, 2), "buffer": (64, 4_194_304), "system": (0, 24), "link": (0, 4_096),
+        "port": (0, 4_096),
+    },
+    "system": {
+        "name": (1, 16), "port": (1, 24), "id": (0, 65_535), "partition": (0, 255),
+        "rate": (10, 1_000),
+    },
+    "link": {
+        "vl": (0, 65_535), "from": (1, 16), "to": (1, 24), "bag_ms": (1, 128), "lmin": (64, 1_518),
+        "lmax": (64, 1_518), "jitter_us": (0, 128_000), "priority": (0, 0), "policing": (0, 0),
+        "latency_us": (1, 100_000), "skew_us": (1, 100_000), "subs": (1, 4),
+    },
+    "port": {
+        "system": (1, 16), "link": (0, 65_535), "udp": (1, 65_535), "kind": (0, 0),
+        "depth": (1, 64),
+    },
+}
+# the same of a file of several switches: of the top of a switch, and of its neighbours
+SWITCH_ROWS = {
+    "switch": KEY_ROWS["top"] | {"name": (1, 16), "neighbour": (0, 23)},
+    "neighbour": {"name": (1, 16), "port": (1, 24), "rate": (10, 1_000)},
+}
+# keys that a table may leave out
+LEFT_OUT = {
+    "top": ("system", "link", "port"), "switch": ("system", "link", "port", "neighbour"),
 }  # fmt: skip
 
 

@@ -8,7 +8,7 @@ answer must have the list's text. So it must for lines that have such a word, as
 dropped, for the name of a fault alone, for the faults of one of two lists, and for those that each
 key of a configuration can have. The lines of the command `list` are those of docs/RECORDINGS.md.
 docs/FORMATS.md, whose tables are printed from the same list, must have the keys and ranges of
-tests/lib/first_fault.py. Prints a line for each that isn't so, and nothing where all is; ends with
+tests/lib/tables.py. Prints a line for each that isn't so, and nothing where all is; ends with
 status 1 if there is one.
 """
 import itertools
@@ -24,16 +24,16 @@ sys.dont_write_bytecode = True
 import closed_lists as lists  # noqa: E402
 from first_fault import ALL_KEYS, KEYS, RANGES  # noqa: E402
 from printing.listing import Row, rows_of  # noqa: E402
+from tables import LEFT_OUT  # noqa: E402
 
 Wanted = list[tuple[str, list[str]]]
 FIELDS = {"port": "3", "vl": "101", "needed": "252", "bound": "16800", "system": "s3", "ns": "6",
           "switch": "aft", "neighbour": "fwd"}
 KEY_FAULTS = ["Missing", "WrongKind", "OutOfRange", "Twice", "NoSuchSystem"]
-# keys by their part and number that can't have this fault, or that alone can; those of a switch of
-# several stand behind those of a file of one
+# keys by their part and number that can't have this fault, beside those of `LEFT_OUT`, or that
+# alone can; those of a switch of several stand behind those of a file of one
 NEVER = {
-    "Missing": ["top 1", "top 3", "top 4", "top 5", "top 6",
-                "switch 1", "switch 3", "switch 4", "switch 5", "switch 7"],
+    "Missing": ["top 1", "top 6", "switch 1"],
     "WrongKind": ["top 1", "switch 1"],
     "OutOfRange": ["top 1", "link 2", "port 1", "switch 1", "switch's link 2", "switch's port 1"],
 }
@@ -134,8 +134,17 @@ def wanted_of_list() -> Wanted:
     return wanted
 
 
+def may_be_absent(part: str, number: str) -> bool:
+    """The key of this number may be left out."""
+    own = part.removeprefix("switch's ")
+    keys = ALL_KEYS[own][int(number) - 1 : int(number)]
+    return any(key in LEFT_OUT.get(own, ()) for key in keys)
+
+
 def can_come(fault: str, key: str) -> bool:
     """A key can have this fault."""
+    if fault == "Missing" and may_be_absent(*key.rsplit(" ", 1)):
+        return False
     return key not in NEVER.get(fault, []) and key in ALONE.get(fault, [key])
 
 

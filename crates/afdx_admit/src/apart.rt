@@ -199,10 +199,10 @@ fn apart_at(switches: &Switches, vl: VlId, switch: SwitchId) -> Option<u64>
 pub fn cascade_apart(switches: &Switches, vl: VlId) -> Option<u64>
     ensures { result ≡ spec.cascade_apart switches.now vl.0 }
 {
-    let count = switches.count();
+    let count = switches.id_count();
     let mut least = None;
     for k in 0..count {
-        let here = apart_at(switches, vl, SwitchId(k as u8));
+        let here = apart_at(switches, vl, SwitchId(k));
         least = lesser(least, here);
     }
     least

@@ -23,9 +23,9 @@ fn add_owns<E, C: CascadeFound<E>>(found: &mut C, switches: &Switches) -> Result
         (each_from (spec.own_lines switches.now) 0 (length switches.now)) result }
     ensures switches { AreSwitches switches.now }
 {
-    let count = switches.count();
+    let count = switches.id_count();
     for k in 0..count {
-        let switch = SwitchId(k as u8);
+        let switch = SwitchId(k);
         found.add_own(switch, switches.tables(switch))?;
     }
     Ok(())
@@ -152,9 +152,9 @@ fn add_hops<E, C: Found<CascadeFault, E>>(found: &mut C, switches: &Switches) ->
     ensures { Walks C.Stops (C.items found.old) (C.items found.new)
         (each_from (spec.hops_lines switches.now) 0 (length switches.now)) result }
 {
-    let count = switches.count();
+    let count = switches.id_count();
     for k in 0..count {
-        add_hops_at(found, switches, SwitchId(k as u8))?;
+        add_hops_at(found, switches, SwitchId(k))?;
     }
     Ok(())
 }
@@ -247,9 +247,9 @@ fn add_readers<E, C: Found<CascadeFault, E>>(found: &mut C, switches: &Switches)
     ensures { Walks C.Stops (C.items found.old) (C.items found.new)
         (each_from (spec.readers_lines switches.now) 0 (length switches.now)) result }
 {
-    let count = switches.count();
+    let count = switches.id_count();
     for k in 0..count {
-        add_readers_at(found, switches, SwitchId(k as u8))?;
+        add_readers_at(found, switches, SwitchId(k))?;
     }
     Ok(())
 }

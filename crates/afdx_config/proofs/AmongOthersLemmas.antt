@@ -10,22 +10,11 @@ use Rattle.afdx_config.specs.Lawful.{IsLink, IsLinkUpTo, IsPort, jitter_from_sys
 use Rattle.afdx_config.specs.Lawful.{IsLawful, IsLawfulSwitch, AreSystems, AreEnds, AreDistinct}
 use Rattle.afdx_config.specs.Laws.{AloneIsOne, OneIsBetweenSystems, AdmittedIsServing}
 use Rattle.afdx_config.specs.Rows.{SystemRow, LinkRow, Rows}
+use Rattle.afdx_config.proofs.LawfulLinkLemmas.{up-to}
 
 link-among : (systems : ℕ) (l : LinkRow) → IsLink systems l → IsLinkUpTo jitter_from_any systems l
-link-among systems l is = record {
-  vl = is.vl;
-  from = is.from;
-  to = is.to;
-  to_count = is.to_count;
-  apart = is.apart;
-  bag_ms = is.bag_ms;
-  lmin = is.lmin;
-  lmax = is.lmax;
-  jitter_us = (omega arith, let most = is.jitter_us.1 in omega (arith, most));
-  latency_us = is.latency_us;
-  skew_us = is.skew_us;
-  subs = is.subs;
-}
+link-among systems l is =
+    up-to jitter_from_system jitter_from_any systems l is (let most = is.jitter_us.1 in omega (arith, most))
 
 links-among : (systems : ℕ) (links : List LinkRow) → AllByRecursion (IsLink systems) links
     → AllByRecursion (IsLinkUpTo jitter_from_any systems) links
@@ -68,20 +57,7 @@ module _ (t : Rows) (lawful : IsLawful t) where
 -- a link of a switch without neighbours comes from a system
 pub link-alone : (systems : ℕ) (l : LinkRow) → IsLinkUpTo jitter_from_any systems l
     → l.jitter_us ≤ jitter_from_system l.bag_ms → IsLink systems l
-link-alone systems l is most = record {
-  vl = is.vl;
-  from = is.from;
-  to = is.to;
-  to_count = is.to_count;
-  apart = is.apart;
-  bag_ms = is.bag_ms;
-  lmin = is.lmin;
-  lmax = is.lmax;
-  jitter_us = (omega arith, most);
-  latency_us = is.latency_us;
-  skew_us = is.skew_us;
-  subs = is.subs;
-}
+link-alone systems l is most = up-to jitter_from_any jitter_from_system systems l is most
 
 links-alone : (systems : ℕ) (links : List LinkRow) → AllByRecursion (IsLinkUpTo jitter_from_any systems) links
     → ((i : ℕ) (l : LinkRow) → slice_get links i ≡ Some l → l.from < systems

@@ -6,6 +6,7 @@ pub mod EntryLemmas
 pub mod GatheredLemmas
 pub mod GrownLemmas
 pub mod AnyLemmas
+pub mod LawfulLinkLemmas
 pub mod LookUpLemmas
 pub mod InSwitchLemmas
 pub mod NumberLemmas

@@ -1,6 +1,6 @@
 -- What the format fixes: the names of keys with the ranges of their values, each at its number, and
 -- the words of faults. The tables of the code are held to these.
-use Rattle.std.specs.Prelude.{◌≡◌, [], ◌∷◌, codes}
+use Rattle.std.specs.Prelude.{◌≡◌, ℕ, [], ◌∷◌, codes}
 use Rattle.afdx_config.specs.FaultText.{fault_words}
 use Rattle.afdx_config.specs.Keys.{key_row, top_keys, system_keys, link_keys, port_keys}
 use Rattle.afdx_config.specs.Keys.{cascade_keys, switch_keys, neighbour_keys}
@@ -36,6 +36,10 @@ TheLinkKeys = link_keys
     ∷ key_row (codes "latency_us") 1 100000
     ∷ key_row (codes "skew_us") 1 100000
     ∷ key_row (codes "subs") 1 4 ∷ []
+
+-- how many these are
+abbrev pub last_link_key : ℕ
+last_link_key = 12
 
 abbrev pub ThePortKeys : Type 0
 ThePortKeys = port_keys

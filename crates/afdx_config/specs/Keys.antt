@@ -12,8 +12,8 @@ use Rattle.afdx_config.specs.declared.fault.Part.{Part}
 use Rattle.afdx_config.specs.declared.fault.Part.TheVariants as part
 use Rattle.afdx_config.specs.declared.key_tables.TheConstants.{TOP_KEYS, SYSTEM_KEYS, LINK_KEYS}
 use Rattle.afdx_config.specs.declared.key_tables.TheConstants.{PORT_KEYS}
-use Rattle.afdx_config.specs.declared.key_tables.TheConstants.{CASCADE_KEYS, SWITCH_KEYS}
-use Rattle.afdx_config.specs.declared.key_tables.TheConstants.{NEIGHBOUR_KEYS}
+use Rattle.afdx_config.specs.declared.cascade_keys.TheConstants.{CASCADE_KEYS, SWITCH_KEYS}
+use Rattle.afdx_config.specs.declared.cascade_keys.TheConstants.{NEIGHBOUR_KEYS}
 use Rattle.afdx_config.specs.declared.keys.At.{At}
 use Rattle.afdx_config.specs.declared.fault.Place.{Place}
 use Rattle.afdx_config.specs.declared.fault.ConfigFault.{ConfigFault}

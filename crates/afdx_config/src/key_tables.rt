@@ -280,116 +280,32 @@ It is the number of messages that may wait in the port.",
     ),
 ];
 
-/// The key of the top of a file that describes several switches. Its number comes after those of a
-/// file of one switch.
-pub const CASCADE_KEYS: [Key; 1] = [(
-    "switch",
-    1,
-    24,
-    "config WrongKind|OutOfRange top 0 key 6",
-    "\
-Key 6 of the top is switch: 1 to 24 tables, one for each switch of a cascade.
-Write [[switch]] before the keys of each, and no other key at the top.",
-)];
-
-/// What is said of key 1 of a switch, whatever is wrong with it.
-const BAD_SWITCH_PROFILE: &str = "\
-The switch's profile is absent, no whole number, or neither 1 nor 2. It is key 1 of a switch:
-profile: 1 or 2. Each switch has its own; profile 2 also has lines of 1000 Mbit/s, and its
-switches drop frames that wait for longer than their link's latency.";
-
-/// The keys of the top of a switch, in a file that describes several.
-pub const SWITCH_KEYS: [Key; 7] = [
+/// The forms of the lines of keys that aren't known, and what they mean: the names in the tables.
+pub const UNKNOWN_KEYS: [(&str, &str); 3] = [
     (
-        "profile",
-        1,
-        2,
-        "config BadProfile switch n top 0 key 1",
-        BAD_SWITCH_PROFILE,
+        "\
+config UnknownKey top 0 key 0
+config UnknownKey system|link|port n key 0
+config UnknownKey switch n system|link|port n key 0",
+        "\
+Keys of the top are profile, buffer, system, link and port.
+Keys of a system are name, port, id, partition and rate.
+Keys of a link are vl, from, to, bag_ms, lmin, lmax, jitter_us, priority, policing,
+latency_us, skew_us and subs.
+Keys of a port are system, link, udp, kind and depth.
+Correct the key's name, or take the key out; capital letters count.
+Where a file describes several switches, its top has the key switch alone.",
     ),
     (
-        "buffer",
-        64,
-        4194304,
-        "config Missing|WrongKind|OutOfRange switch n top 0 key 2",
+        "config UnknownKey switch n top 0 key 0",
         "\
-Key 2 of a switch is buffer: bytes of waiting frames in each output port: 64 to 4194304.
-'afdx check' prints the bytes that each port needs in the last field of its P line.",
+Keys of a switch are profile, buffer, system, link, port, name and neighbour.
+Correct the key's name, or take the key out; capital letters count.",
     ),
     (
-        "system",
-        0,
-        24,
-        "config WrongKind|OutOfRange switch n top 0 key 3",
+        "config UnknownKey switch n neighbour n key 0",
         "\
-Key 3 of a switch is system: at most 24 tables, one for each end system at this switch.
-Write [[switch.system]] before the keys of each.",
-    ),
-    (
-        "link",
-        0,
-        4096,
-        "config WrongKind|OutOfRange switch n top 0 key 4",
-        "\
-Key 4 of a switch is link: at most 4096 tables, one for each virtual link that it forwards.
-Write [[switch.link]] before the keys of each.",
-    ),
-    (
-        "port",
-        0,
-        4096,
-        "config WrongKind|OutOfRange switch n top 0 key 5",
-        "\
-Key 5 of a switch is port: at most 4096 tables: the communication ports of its systems.
-Write [[switch.port]] before the keys of each.",
-    ),
-    (
-        "name",
-        1,
-        16,
-        "config Missing|WrongKind|OutOfRange|Twice switch n top 0 key 6",
-        "\
-Key 6 of a switch is name: 1 to 16 ASCII letters and digits, in quotes.
-Each switch has a name of its own; its neighbours speak of it by this name.",
-    ),
-    (
-        "neighbour",
-        0,
-        23,
-        "config WrongKind|OutOfRange switch n top 0 key 7",
-        "\
-Key 7 of a switch is neighbour: at most 23 tables, one for each switch at one of its ports.
-Write [[switch.neighbour]] before the keys of each.",
-    ),
-];
-
-/// The keys of a neighbour of a switch.
-pub const NEIGHBOUR_KEYS: [Key; 3] = [
-    (
-        "name",
-        1,
-        16,
-        "config Missing|WrongKind|OutOfRange|Twice|NoSuchSystem switch n neighbour n key 1",
-        "\
-Key 1 of a neighbour is name: a switch's name, that of the switch at the other end of the cable.
-It is another switch than this one, which lists this one as its neighbour.",
-    ),
-    (
-        "port",
-        1,
-        24,
-        "config Missing|WrongKind|OutOfRange|Twice switch n neighbour n key 2",
-        "\
-Key 2 of a neighbour is port: the port of this switch at which its cable ends: 1 to 24.
-Each system and each neighbour of a switch has a port of its own.",
-    ),
-    (
-        "rate",
-        10,
-        1000,
-        "config Missing|WrongKind|OutOfRange switch n neighbour n key 3",
-        "\
-Key 3 of a neighbour is rate: Mbit/s: 10 or 100; with profile 2 also 1000.
-It is that of the cable, so both of its ends have the same.",
+Keys of a neighbour are name, port and rate.
+Correct the key's name, or take the key out; capital letters count.",
     ),
 ];

@@ -6,13 +6,13 @@ ghost use Rattle.toml.specs.View.{view, table_view, items_view};
 ghost use Rattle.afdx_config.specs.Lawful.{IsWithin, IsOneOf};
 ghost use Rattle.afdx_frame.specs.Checks.{or_else};
 ghost use Rattle.afdx_config.specs.Fault.{Gives};
+ghost use Rattle.afdx_config.specs.Format.{last_link_key};
 ghost use Rattle.afdx_config.specs.Trees.{trees, lent_texts};
 ghost use Rattle.afdx_config.specs.Keys as spec;
 
+use crate::cascade_keys::{CASCADE_KEYS, NEIGHBOUR_KEYS, SWITCH_KEYS};
 use crate::fault::{ConfigFault, Part, Place};
-use crate::key_tables::{
-    CASCADE_KEYS, Key, LINK_KEYS, NEIGHBOUR_KEYS, PORT_KEYS, SWITCH_KEYS, SYSTEM_KEYS, TOP_KEYS,
-};
+use crate::key_tables::{Key, LINK_KEYS, PORT_KEYS, SYSTEM_KEYS, TOP_KEYS};
 use std::alloc::Global;
 use toml::{Table, Value};
 
@@ -70,7 +70,7 @@ pub(crate) fn system_at(index: usize, number: u8) -> At
 /// The key of this number, of the link of this number.
 #[tactic(auto, unfolding(crate::specs::Keys::link_keys))]
 pub(crate) fn link_at(index: usize, number: u8) -> At
-    requires { (1 ≤ number) × (number ≤ 12) }
+    requires { (1 ≤ number) × (number ≤ last_link_key) }
     ensures spot { spec.spot_of result ≡ spec.link_at index number }
     ensures place { result.place ≡ spec.place Part.Link index number }
 {

@@ -8,10 +8,9 @@ ghost use Rattle.std.specs.Str.{bytes_eq};
 ghost use Rattle.afdx_config.specs.Fault.{Gives};
 ghost use Rattle.afdx_config.specs.Keys as spec;
 
+use crate::cascade_keys::{CASCADE_KEYS, NEIGHBOUR_KEYS, SWITCH_KEYS};
 use crate::fault::{ConfigFault, Part, Place};
-use crate::key_tables::{
-    CASCADE_KEYS, Key, LINK_KEYS, NEIGHBOUR_KEYS, PORT_KEYS, SWITCH_KEYS, SYSTEM_KEYS, TOP_KEYS,
-};
+use crate::key_tables::{Key, LINK_KEYS, PORT_KEYS, SYSTEM_KEYS, TOP_KEYS};
 use crate::keys::place;
 use toml::Table;
 

@@ -4,13 +4,13 @@
 #![tactic(auto)]
 
 mod asked;
+mod cascade_keys;
 mod choices;
 mod describing;
 mod ends;
 mod fault;
 mod file_fault;
 mod key_tables;
-mod key_texts;
 mod keys;
 mod known_keys;
 pub mod laws;
@@ -29,13 +29,11 @@ mod switches;
 mod systems;
 mod tables;
 
+pub use cascade_keys::{CASCADE_KEYS, NEIGHBOUR_KEYS, SWITCH_KEYS, WIDER_KEYS};
 pub use describing::{Described, read_file};
 pub use fault::{CONFIG_FAULTS, ConfigFault, Part, Place};
 pub use file_fault::FileFault;
-pub use key_tables::{
-    CASCADE_KEYS, Key, LINK_KEYS, NEIGHBOUR_KEYS, PORT_KEYS, SWITCH_KEYS, SYSTEM_KEYS, TOP_KEYS,
-};
-pub use key_texts::{UNKNOWN_KEYS, WIDER_KEYS};
+pub use key_tables::{Key, LINK_KEYS, PORT_KEYS, SYSTEM_KEYS, TOP_KEYS, UNKNOWN_KEYS};
 pub use read::{read_tables, read_to_solve};
 pub use reading_to_solve::{ToSolve, read_file_to_solve};
 pub use rows::{ComRow, KeptKeys, Kind, Link, System, SystemId, Times};

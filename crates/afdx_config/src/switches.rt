@@ -15,6 +15,28 @@ use std::marker::Model;
 #[derive(Clone, Copy, Debug, PartialEq, Eq, Hash)]
 pub struct SwitchId(pub u8);
 
+impl SwitchId {
+    ghost use Rattle.std.specs.Prelude.{◌≡◌, ◌<◌};
+    ghost use Rattle.afdx_config.specs.Switches.{most_switches};
+
+    /// The switch at a place of the configuration, which has at most 24.
+    #[inline(always)]
+    pub fn nth(place: usize) -> SwitchId
+        requires { place < most_switches }
+        ensures place { result.0 ≡ place }
+    {
+        SwitchId(place as u8)
+    }
+
+    /// Its place in the configuration, from 0.
+    #[inline(always)]
+    pub fn index(self) -> usize
+        ensures place { result ≡ self.0 }
+    {
+        usize::from(self.0)
+    }
+}
+
 /// Where a cable ends: a port of a switch.
 #[derive(Clone, Copy, Debug, PartialEq, Eq)]
 pub struct FarEnd {
@@ -75,12 +97,20 @@ impl Switches {
         self.switches.len()
     }
 
+    /// The same as a number of identities: `SwitchId(k)` is a switch for each k below it.
+    pub fn id_count(&self) -> u8
+        ensures count { result ≡ length self.now }
+        ensures switches { AreSwitches self.now }
+    {
+        self.count() as u8
+    }
+
     /// The name of the switch at this place.
     pub fn name(&self, switch: SwitchId) -> &str
         requires { switch.0 < length self.now }
         ensures name { option_map (λ s. s.name) (slice_get self.now switch.0) ≡ Some result.now }
     {
-        at(self.switches.as_slice(), switch.0 as usize).name()
+        at(self.switches.as_slice(), switch.index()).name()
     }
 
     /// The tables of the switch at this place.
@@ -90,7 +120,7 @@ impl Switches {
             ≡ Some result.now }
         ensures lawful { IsLawfulSwitch result.now }
     {
-        at(self.switches.as_slice(), switch.0 as usize).tables()
+        at(self.switches.as_slice(), switch.index()).tables()
     }
 
     /// The tables of the switch at this place, and of no other.
@@ -100,7 +130,7 @@ impl Switches {
         ensures lawful { IsLawfulSwitch result }
     {
         let Self { mut switches } = self;
-        switches.swap_remove(switch.0 as usize).into_tables()
+        switches.swap_remove(switch.index()).into_tables()
     }
 
     /// Changes the buffer of each output port of a switch, to so many bytes.
@@ -110,7 +140,7 @@ impl Switches {
         ensures changed { self.new ≡ with_buffer_at switch.0 buffer self.old }
         ensures switches { AreSwitches self.new }
     {
-        self.switches[switch.0 as usize].set_buffer(buffer);
+        self.switches[switch.index()].set_buffer(buffer);
     }
 
     /// Changes the times of the link at a place of a switch, to ones that the link may have.
@@ -122,7 +152,7 @@ impl Switches {
         ensures changed { self.new ≡ with_times_at switch.0 index times self.old }
         ensures switches { AreSwitches self.new }
     {
-        self.switches[switch.0 as usize].set_times(index, times);
+        self.switches[switch.index()].set_times(index, times);
     }
 
     /// The switch of this name, if there is one. It tries each of them.
@@ -131,7 +161,7 @@ impl Switches {
         ensures known { IfSome result (λ k. k.0 < length self.now) }
     {
         let place = switch_named(self.switches.as_slice(), name)?;
-        Some(SwitchId(place as u8))
+        Some(SwitchId::nth(place))
     }
 
     /// The system of this name, if there is one, and its switch. It looks it up at each of them.
@@ -144,7 +174,7 @@ impl Switches {
         let system = at(self.switches.as_slice(), place)
             .tables()
             .own_named(name)?;
-        Some((SwitchId(place as u8), system))
+        Some((SwitchId::nth(place), system))
     }
 
     /// The first switch that has a row of this link, if there is one. It looks it up at each of
@@ -154,7 +184,7 @@ impl Switches {
         ensures known { IfSome result (λ k. k.0 < length self.now) }
     {
         let place = first_of(self.switches.as_slice(), vl)?;
-        Some(SwitchId(place as u8))
+        Some(SwitchId::nth(place))
     }
 
     /// The other end of the cable at a port of a switch, if there is one. It tries each of what
@@ -164,7 +194,7 @@ impl Switches {
         requires { switch.0 < length self.now }
         ensures { result ≡ far_end self.now switch.0 port }
     {
-        let here = at(self.switches.as_slice(), switch.0 as usize);
+        let here = at(self.switches.as_slice(), switch.index());
         let neighbour = here.tables().neighbour_at(port)?;
         end_at(self.switches.as_slice(), here.name(), neighbour)
     }
@@ -178,7 +208,7 @@ fn end_at(switches: &[NamedTables], name: &str, neighbour: &System) -> Option<Fa
     let far = switch_named(switches, neighbour.name.as_str())?;
     let back = listed_at(switches, name, far)?;
     Some(FarEnd {
-        switch: SwitchId(far as u8),
+        switch: SwitchId::nth(far),
         port: back.port,
     })
 }

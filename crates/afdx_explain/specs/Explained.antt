@@ -7,9 +7,9 @@ use Rattle.afdx_frame.specs.declared.fault.TheConstants.{MAC_FAULTS, IP_FAULTS}
 use Rattle.afdx_police.specs.declared.shape.TheConstants.{REASONS}
 use Rattle.afdx_config.specs.declared.fault.TheConstants.{CONFIG_FAULTS}
 use Rattle.afdx_config.specs.declared.key_tables.TheConstants.{TOP_KEYS, SYSTEM_KEYS, LINK_KEYS}
-use Rattle.afdx_config.specs.declared.key_tables.TheConstants.{PORT_KEYS, CASCADE_KEYS}
-use Rattle.afdx_config.specs.declared.key_tables.TheConstants.{SWITCH_KEYS, NEIGHBOUR_KEYS}
-use Rattle.afdx_config.specs.declared.key_texts.TheConstants.{WIDER_KEYS, UNKNOWN_KEYS}
+use Rattle.afdx_config.specs.declared.key_tables.TheConstants.{PORT_KEYS, UNKNOWN_KEYS}
+use Rattle.afdx_config.specs.declared.cascade_keys.TheConstants.{CASCADE_KEYS, SWITCH_KEYS}
+use Rattle.afdx_config.specs.declared.cascade_keys.TheConstants.{NEIGHBOUR_KEYS, WIDER_KEYS}
 use Rattle.afdx_admit.specs.declared.fault.TheConstants.{ADMISSION}
 use Rattle.afdx_admit.specs.declared.cascade_fault.TheConstants.{CASCADE_ADMISSION}
 use Rattle.afdx_receive.specs.declared.reception.TheConstants.{DROP_REASONS}

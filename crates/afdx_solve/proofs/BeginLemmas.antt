@@ -7,6 +7,7 @@ use Rattle.afdx_frame.proofs.ListLemmas.{AllByRecursion-slice_get}
 use Rattle.afdx_config.specs.declared.rows.Times.{Times}
 use Rattle.afdx_config.specs.Rows.{LinkRow, Rows}
 use Rattle.afdx_config.specs.Changed.{with_times, with_link_at, with_buffer}
+use Rattle.afdx_config.proofs.LawfulLinkLemmas.{with-others}
 use Rattle.afdx_config.specs.Lawful.{IsLinkAmong, IsLinkUpTo, IsLawfulSwitch, jitter_from_any, jitter_from_system}
 use Rattle.afdx_config.specs.Reading.{greatest_delay}
 use Rattle.afdx_config.specs.Switches.{NamedRows, named_rows, AreSwitches}
@@ -55,23 +56,16 @@ chosen-some false false file n a b = b
 module _ (o : SolveOptions) where
   pub begun-lawful : (own ends : ℕ) (l : LinkRow) → IsLinkAmong own ends l → IsLinkAmong own ends (begun o l)
   begun-lawful own ends l h = record {
-    link = record {
-      vl = h.link.vl;
-      from = h.link.from;
-      to = h.link.to;
-      to_count = h.link.to_count;
-      apart = h.link.apart;
-      bag_ms = h.link.bag_ms;
-      lmin = h.link.lmin;
-      lmax = h.link.lmax;
-      jitter_us = chosen-within o.kept.jitter o.raise_only 0 (jitter_from_any l.bag_ms) l.jitter_us 0
-          h.link.jitter_us (omega arith, omega arith);
-      latency_us = chosen-within o.kept.latency o.raise_only 1 greatest_delay l.latency_us 1
-          h.link.latency_us (omega arith, omega arith);
-      skew_us = chosen-within o.kept.skew o.raise_only 1 greatest_delay l.skew_us 1
-          h.link.skew_us (omega arith, omega arith);
-      subs = h.link.subs;
-    };
+    link =
+        let new = begun o l in
+        let jitter = chosen-within o.kept.jitter o.raise_only 0 (jitter_from_any l.bag_ms) l.jitter_us 0
+        h.link.jitter_us (omega arith, omega arith) in
+        with-others jitter_from_any jitter_from_any ends l h.link l.policing new.jitter_us new.latency_us
+        new.skew_us jitter.1
+        (chosen-within o.kept.latency o.raise_only 1 greatest_delay l.latency_us 1 h.link.latency_us
+        (omega arith, omega arith))
+        (chosen-within o.kept.skew o.raise_only 1 greatest_delay l.skew_us 1 h.link.skew_us
+        (omega arith, omega arith));
     sent = λ from. (chosen-within o.kept.jitter o.raise_only 0 (jitter_from_system l.bag_ms) l.jitter_us 0
         (omega arith, h.sent from) (omega arith, omega arith)).1;
   }

@@ -9,6 +9,7 @@ use Rattle.afdx_frame.specs.declared.link.Priority.TheVariants.{High, Low}
 use Rattle.afdx_config.specs.declared.rows.Times.{Times}
 use Rattle.afdx_config.specs.Rows.{SystemRow, LinkRow, Rows}
 use Rattle.afdx_config.specs.Reading.{greatest_delay}
+use Rattle.afdx_config.proofs.LawfulLinkLemmas.{with-others}
 use Rattle.afdx_config.specs.Lawful.{IsWithin, IsLinkAmong, jitter_from_system, jitter_from_any}
 use Rattle.afdx_config.specs.Changed.{with_times}
 use Rattle.afdx_admit.specs.Lines.{loaded_output_to, buffer_need_of, jitter_at}
@@ -68,43 +69,24 @@ module _ (own systems : ℕ) (link : LinkRow) (h : IsLinkAmong own systems link)
   delays-lawful o needed some =
       let latency = chosen-within o.kept.latency o.raise_only 1 greatest_delay link.latency_us
       (min greatest_delay needed) h.link.latency_us (omega (arith, some), omega arith) in
+      let new = with_delays_for o needed link in
       record {
-        link = record {
-          vl = h.link.vl;
-          from = h.link.from;
-          to = h.link.to;
-          to_count = h.link.to_count;
-          apart = h.link.apart;
-          bag_ms = h.link.bag_ms;
-          lmin = h.link.lmin;
-          lmax = h.link.lmax;
-          jitter_us = h.link.jitter_us;
-          latency_us = latency;
-          skew_us = chosen-within o.kept.skew o.raise_only 1 greatest_delay link.skew_us _ h.link.skew_us
-              (omega (arith, latency.0), omega arith);
-          subs = h.link.subs;
-        };
+        link = with-others jitter_from_any jitter_from_any systems link h.link link.policing link.jitter_us
+            new.latency_us new.skew_us h.link.jitter_us.1 latency
+            (chosen-within o.kept.skew o.raise_only 1 greatest_delay link.skew_us _ h.link.skew_us
+            (omega (arith, latency.0), omega arith));
         sent = h.sent;
       }
 
   jitter-lawful : (keep raise_only : Bool) (needed : ℕ)
       → IsLinkAmong own systems (with_jitter_for keep raise_only needed link)
   jitter-lawful keep raise_only needed = record {
-    link = record {
-      vl = h.link.vl;
-      from = h.link.from;
-      to = h.link.to;
-      to_count = h.link.to_count;
-      apart = h.link.apart;
-      bag_ms = h.link.bag_ms;
-      lmin = h.link.lmin;
-      lmax = h.link.lmax;
-      jitter_us = chosen-within keep raise_only 0 (jitter_from_any link.bag_ms) link.jitter_us
-          (least_jitter needed link) h.link.jitter_us (omega arith, omega arith);
-      latency_us = h.link.latency_us;
-      skew_us = h.link.skew_us;
-      subs = h.link.subs;
-    };
+    link =
+        let new = with_jitter_for keep raise_only needed link in
+        let jitter = chosen-within keep raise_only 0 (jitter_from_any link.bag_ms) link.jitter_us
+        (least_jitter needed link) h.link.jitter_us (omega arith, omega arith) in
+        with-others jitter_from_any jitter_from_any systems link h.link link.policing new.jitter_us
+        link.latency_us link.skew_us jitter.1 h.link.latency_us h.link.skew_us;
     sent = λ from. (chosen-within keep raise_only 0 (jitter_from_system link.bag_ms) link.jitter_us
         (least_jitter needed link) (omega arith, h.sent from) (omega arith, omega arith)).1;
   }

@@ -13,6 +13,7 @@ use Rattle.afdx_config.specs.Switches.{NamedRows}
 use Rattle.afdx_config.specs.AtSwitch.{tables_at, link_at}
 use Rattle.afdx_config.specs.ChangedSwitches.{with_times_at, with_buffer_at, AreAlike}
 use Rattle.afdx_config.proofs.ChangedSwitchesLemmas.{alike-changed, bare-times}
+use Rattle.afdx_config.proofs.LawfulLinkLemmas.{with-others}
 use Rattle.afdx_admit.specs.Cascade.{RowAt, row_at}
 use Rattle.afdx_admit.specs.Lines.{jitter_at}
 use Rattle.afdx_solve.specs.declared.options.SolveOptions.{SolveOptions}
@@ -74,23 +75,16 @@ raised-lawful o ss t k l needed h n =
     let latency = latency-some t l in
     let skew = skew-some o ss t (row_at k l) h.link.latency_us.0 in
     record {
-      link = record {
-        vl = h.link.vl;
-        from = h.link.from;
-        to = h.link.to;
-        to_count = h.link.to_count;
-        apart = h.link.apart;
-        bag_ms = h.link.bag_ms;
-        lmin = h.link.lmin;
-        lmax = h.link.lmax;
-        jitter_us = chosen-within o.kept.jitter true 0 (jitter_from_any l.bag_ms) l.jitter_us needed.jitter_us
-            h.link.jitter_us (omega arith, omega (arith, n.jitter, any));
-        latency_us = chosen-within o.kept.latency true 1 greatest_delay l.latency_us needed.latency_us
-            h.link.latency_us (n.latency_some, omega (arith, n.latency, latency.1));
-        skew_us = chosen-within o.kept.skew true 1 greatest_delay l.skew_us needed.skew_us
-            h.link.skew_us (n.skew_some, omega (arith, n.skew, skew.1));
-        subs = h.link.subs;
-      };
+      link =
+          let times = raised_times o needed l in
+          let jitter = chosen-within o.kept.jitter true 0 (jitter_from_any l.bag_ms) l.jitter_us needed.jitter_us
+          h.link.jitter_us (omega arith, omega (arith, n.jitter, any)) in
+          with-others jitter_from_any jitter_from_any (length t.systems) l h.link l.policing times.jitter_us
+          times.latency_us times.skew_us jitter.1
+          (chosen-within o.kept.latency true 1 greatest_delay l.latency_us needed.latency_us h.link.latency_us
+          (n.latency_some, omega (arith, n.latency, latency.1)))
+          (chosen-within o.kept.skew true 1 greatest_delay l.skew_us needed.skew_us h.link.skew_us
+          (n.skew_some, omega (arith, n.skew, skew.1)));
       sent = λ from. (chosen-within o.kept.jitter true 0 (jitter_from_system l.bag_ms) l.jitter_us needed.jitter_us
           (omega arith, h.sent from) (omega arith, omega (arith, n.jitter, jitter-system ss t (row_at k l) from))).1;
     }

@@ -59,9 +59,9 @@ pub(crate) fn begin(switches: &mut Switches, options: SolveOptions)
     ensures begun { switches.new ≡ map (spec.begun_switch options) switches.old }
     ensures switches { AreSwitches switches.old }
 {
-    let count = switches.count();
+    let count = switches.id_count();
     for k in 0..count {
-        begin_rows(switches, options, SwitchId(k as u8));
-        begin_buffer(switches, options, SwitchId(k as u8));
+        begin_rows(switches, options, SwitchId(k));
+        begin_buffer(switches, options, SwitchId(k));
     }
 }

@@ -84,12 +84,12 @@ pub fn cascade_text(alloc: Global, switches: &Switches) -> Result<String, AllocE
     ensures spells { IfOk result
         (λ text. Describes (string_bytes text) (Several switches.now)) }
 {
-    let count = switches.count();
+    let count = switches.id_count();
     let mut text = String::new(alloc);
     let first = SwitchId(0);
     put_switch(&mut text, switches.name(first), switches.tables(first))?;
     for i in 1..count {
-        let switch = SwitchId(i as u8);
+        let switch = SwitchId(i);
         put_next(&mut text, switches.name(switch), switches.tables(switch))?;
     }
     Ok(text)

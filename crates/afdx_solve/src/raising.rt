@@ -145,10 +145,10 @@ pub(crate) fn raise_all(switches: &mut Switches, options: SolveOptions) -> bool
         IsSettledAt options switches.new k }
     ensures switches { AreSwitches switches.old }
 {
-    let count = switches.count();
+    let count = switches.id_count();
     let mut raised = false;
     for k in 0..count {
-        let one = raise_at(switches, options, SwitchId(k as u8));
+        let one = raise_at(switches, options, SwitchId(k));
         raised = raised || one;
     }
     raised

@@ -104,10 +104,10 @@ pub fn first_short_at(apart: u64, switches: &Switches) -> Option<ShortAt>
     ensures first { result ≡ spec.first_short_at apart switches.now }
     ensures known { IfSome result (λ found. found.switch.0 < length switches.now) }
 {
-    let count = switches.count();
+    let count = switches.id_count();
     let mut first = None;
     for k in 0..count {
-        let here = short_switch(apart, switches, SwitchId(k as u8));
+        let here = short_switch(apart, switches, SwitchId(k));
         first = first.or(here);
     }
     first

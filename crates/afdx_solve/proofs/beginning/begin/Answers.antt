@@ -13,7 +13,7 @@ pub begin_rows-requires : goal.begin_rows-requires
 begin_rows-requires c =
     omega (
       arith,
-      c.count-count.ensures.count,
+      c.id_count-count.ensures.count,
       ap length c.loop-k.invariant,
       length-first (begun_switch c.args.options) c.loop-k.k c.args.switches.now,
     )
@@ -22,7 +22,7 @@ pub begin_buffer-requires : goal.begin_buffer-requires
 begin_buffer-requires c =
     omega (
       arith,
-      c.count-count.ensures.count,
+      c.id_count-count.ensures.count,
       ap length c.loop-k.invariant,
       length-first (begun_switch c.args.options) c.loop-k.k c.args.switches.now,
       ap length c.begin_rows.ensures,
@@ -41,4 +41,4 @@ pub returns-clause-begun : goal.returns-clause-begun
 returns-clause-begun c =
     c.loop-k.invariant
     ∙ past-first (begun_switch c.args.options) c.loop-k.k c.args.switches.now
-    (omega (arith, c.count-count.ensures.count))
+    (omega (arith, c.id_count-count.ensures.count))

@@ -27,6 +27,6 @@ loop-i-preserved c =
 
 pub returns-clause-spells : goal.returns-clause-spells
 returns-clause-spells c =
-    string-describes c.loop-i.text c.args.switches.now c.count-count.ensures.switches
-    (rw (take_all c.loop-i.i c.args.switches.now (rw c.count-count.ensures.count at c.loop-i-test.false))
+    string-describes c.loop-i.text c.args.switches.now c.id_count-count.ensures.switches
+    (rw (take_all c.loop-i.i c.args.switches.now (rw c.id_count-count.ensures.count at c.loop-i-test.false))
     at c.loop-i.invariant.so_far)

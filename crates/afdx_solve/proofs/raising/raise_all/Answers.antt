@@ -21,4 +21,4 @@ pub returns-clause-settled : goal.returns-clause-settled
 returns-clause-settled c = λ none k less.
     let same = c.loop-k.invariant.raises.same none in
     subst (λ ss. IsSettledAt c.args.options ss k) (sym same)
-    (c.loop-k.invariant.settled none k (omega (arith, less, ap length same, c.count-count.ensures.count)))
+    (c.loop-k.invariant.settled none k (omega (arith, less, ap length same, c.id_count-count.ensures.count)))

@@ -1,4 +1,5 @@
 use Rattle.std.proofs.Common.{◌≡◌, ◌<◌, length, slice_set, List, refl, sym, ap, ◌∙◌, subst}
+use Rattle.std.specs.Prelude.{get_or}
 use Rattle.std.proofs.lemmas.Option.{slice_get_read}
 use Rattle.afdx_config.specs.Changed.{with_buffer}
 use Rattle.afdx_config.specs.Switches.{NamedRows, AreSwitches}
@@ -12,9 +13,12 @@ invariant_of-self c =
     let k = c.args.switch.0 in
     let within : k < length items =
     subst (λ (ss : List NamedRows). k < length ss) (sym c.self.view_is) c.requires.switch in
-    let at = slice_get_read items (length items) k c.index_mut.result.now refl within c.index_mut.ensures.value in
-    let e : slice_set items k c.set_buffer.new.self ≡ with_buffer_at k c.args.buffer items =
-    ap (slice_set items k) c.set_buffer.ensures
+    let read = subst (λ n. c.index_mut.result.now ≡ get_or items n c.index_mut.result.now) c.index.ensures.place
+    c.index_mut.ensures.value in
+    let at = slice_get_read items (length items) k c.index_mut.result.now refl within read in
+    let e : slice_set items c.index.result c.set_buffer.new.self ≡ with_buffer_at k c.args.buffer items =
+    ap (λ n. slice_set items n c.set_buffer.new.self) c.index.ensures.place
+    ∙ ap (slice_set items k) c.set_buffer.ensures
     ∙ changed-set (with_buffer c.args.buffer) items k c.index_mut.result.now at in
     subst AreSwitches (sym e) (switches-buffer items c.self.invariant k c.args.buffer c.requires.buffer)
 
@@ -24,8 +28,11 @@ returns-clause-changed c =
     let k = c.args.switch.0 in
     let within : k < length items =
     subst (λ (ss : List NamedRows). k < length ss) (sym c.self.view_is) c.requires.switch in
-    let at = slice_get_read items (length items) k c.index_mut.result.now refl within c.index_mut.ensures.value in
-    ap (slice_set items k) c.set_buffer.ensures
+    let read = subst (λ n. c.index_mut.result.now ≡ get_or items n c.index_mut.result.now) c.index.ensures.place
+    c.index_mut.ensures.value in
+    let at = slice_get_read items (length items) k c.index_mut.result.now refl within read in
+    ap (λ n. slice_set items n c.set_buffer.new.self) c.index.ensures.place
+    ∙ ap (slice_set items k) c.set_buffer.ensures
     ∙ changed-set (with_buffer c.args.buffer) items k c.index_mut.result.now at
     ∙ ap (with_buffer_at k c.args.buffer) c.self.view_is
 
@@ -35,8 +42,11 @@ returns-clause-switches c =
     let k = c.args.switch.0 in
     let within : k < length items =
     subst (λ (ss : List NamedRows). k < length ss) (sym c.self.view_is) c.requires.switch in
-    let at = slice_get_read items (length items) k c.index_mut.result.now refl within c.index_mut.ensures.value in
-    let e : slice_set items k c.set_buffer.new.self ≡ with_buffer_at k c.args.buffer items =
-    ap (slice_set items k) c.set_buffer.ensures
+    let read = subst (λ n. c.index_mut.result.now ≡ get_or items n c.index_mut.result.now) c.index.ensures.place
+    c.index_mut.ensures.value in
+    let at = slice_get_read items (length items) k c.index_mut.result.now refl within read in
+    let e : slice_set items c.index.result c.set_buffer.new.self ≡ with_buffer_at k c.args.buffer items =
+    ap (λ n. slice_set items n c.set_buffer.new.self) c.index.ensures.place
+    ∙ ap (slice_set items k) c.set_buffer.ensures
     ∙ changed-set (with_buffer c.args.buffer) items k c.index_mut.result.now at in
     subst AreSwitches (sym e) (switches-buffer items c.self.invariant k c.args.buffer c.requires.buffer)

@@ -1,4 +1,5 @@
 use Rattle.std.proofs.Common.{IsSome, ◌≡◌, length, slice_get, slice_set, List, Some, refl, sym, ap, ◌∙◌, subst}
+use Rattle.std.specs.Prelude.{get_or}
 use Rattle.std.proofs.lemmas.Option.{slice_get_read, slice_get_within}
 use Rattle.afdx_config.specs.Changed.{with_times, with_link_at}
 use Rattle.afdx_config.specs.AtSwitch.{tables_at, link_at}
@@ -16,9 +17,12 @@ invariant_of-self c =
     let stands = row-stands items k c.args.index
     (subst (λ (ss : List NamedRows). IsSome (link_at ss k c.args.index)) (sym c.self.view_is) c.requires.within) in
     let within = slice_get_within items k stands.switch stands.at in
-    let at = slice_get_read items (length items) k c.index_mut.result.now refl within c.index_mut.ensures.value in
-    let e : slice_set items k c.set_times.new.self ≡ with_times_at k c.args.index c.args.times items =
-    ap (slice_set items k) c.set_times.ensures
+    let read = subst (λ n. c.index_mut.result.now ≡ get_or items n c.index_mut.result.now) c.index.ensures.place
+    c.index_mut.ensures.value in
+    let at = slice_get_read items (length items) k c.index_mut.result.now refl within read in
+    let e : slice_set items c.index.result c.set_times.new.self ≡ with_times_at k c.args.index c.args.times items =
+    ap (λ n. slice_set items n c.set_times.new.self) c.index.ensures.place
+    ∙ ap (slice_set items k) c.set_times.ensures
     ∙ changed-set (with_link_at c.args.index c.args.times) items k c.index_mut.result.now at in
     let may = subst (λ (ss : List NamedRows). (t : Rows) (l : LinkRow) → tables_at ss k ≡ Some t
     → slice_get t.links c.args.index ≡ Some l → IsLinkAmong t.own (length t.systems) (with_times c.args.times l))
@@ -32,8 +36,11 @@ returns-clause-changed c =
     let stands = row-stands items k c.args.index
     (subst (λ (ss : List NamedRows). IsSome (link_at ss k c.args.index)) (sym c.self.view_is) c.requires.within) in
     let within = slice_get_within items k stands.switch stands.at in
-    let at = slice_get_read items (length items) k c.index_mut.result.now refl within c.index_mut.ensures.value in
-    ap (slice_set items k) c.set_times.ensures
+    let read = subst (λ n. c.index_mut.result.now ≡ get_or items n c.index_mut.result.now) c.index.ensures.place
+    c.index_mut.ensures.value in
+    let at = slice_get_read items (length items) k c.index_mut.result.now refl within read in
+    ap (λ n. slice_set items n c.set_times.new.self) c.index.ensures.place
+    ∙ ap (slice_set items k) c.set_times.ensures
     ∙ changed-set (with_link_at c.args.index c.args.times) items k c.index_mut.result.now at
     ∙ ap (with_times_at k c.args.index c.args.times) c.self.view_is
 
@@ -44,9 +51,12 @@ returns-clause-switches c =
     let stands = row-stands items k c.args.index
     (subst (λ (ss : List NamedRows). IsSome (link_at ss k c.args.index)) (sym c.self.view_is) c.requires.within) in
     let within = slice_get_within items k stands.switch stands.at in
-    let at = slice_get_read items (length items) k c.index_mut.result.now refl within c.index_mut.ensures.value in
-    let e : slice_set items k c.set_times.new.self ≡ with_times_at k c.args.index c.args.times items =
-    ap (slice_set items k) c.set_times.ensures
+    let read = subst (λ n. c.index_mut.result.now ≡ get_or items n c.index_mut.result.now) c.index.ensures.place
+    c.index_mut.ensures.value in
+    let at = slice_get_read items (length items) k c.index_mut.result.now refl within read in
+    let e : slice_set items c.index.result c.set_times.new.self ≡ with_times_at k c.args.index c.args.times items =
+    ap (λ n. slice_set items n c.set_times.new.self) c.index.ensures.place
+    ∙ ap (slice_set items k) c.set_times.ensures
     ∙ changed-set (with_link_at c.args.index c.args.times) items k c.index_mut.result.now at in
     let may = subst (λ (ss : List NamedRows). (t : Rows) (l : LinkRow) → tables_at ss k ≡ Some t
     → slice_get t.links c.args.index ≡ Some l → IsLinkAmong t.own (length t.systems) (with_times c.args.times l))
