@@ -28,10 +28,9 @@ use Rattle.afdx_cascade.specs.Plans.{plan_of, tables_of}
 use Rattle.afdx_cascade.specs.Runs.{Line, IsBeforeLine, arriving, event_at, turn_phase}
 use Rattle.afdx_cascade.specs.Standing.{Stands}
 use Rattle.afdx_cascade.specs.SwitchEvents.{Plan, SwitchEvent, came_to}
-use Rattle.afdx_cascade.specs.Turning.{AreEnds, AreInTransit, IsSent, TellsTurn}
+use Rattle.afdx_cascade.specs.Turning.{AreEnds, AreInTransit, TellsTurn}
 use Rattle.afdx_cascade.specs.declared.cable.InTransit.{InTransit}
 use Rattle.afdx_cascade.specs.declared.cascade.Cascade.{Cascade}
-use Rattle.afdx_cascade.specs.declared.told.Brought.{Brought}
 use Rattle.afdx_cascade.specs.declared.told.Happened.{Happened}
 use Rattle.afdx_cascade.specs.declared.told.Happened.TheVariants.{Ended, Carried, Came}
 use Rattle.afdx_cascade.proofs.FrontLemmas.{due-later, line-keeps, start-keeps}
@@ -49,9 +48,8 @@ none-of o P e h = subst (λ z. IfNone z P) e h
 turn-tells : (c : Plan) (so_far : List SwitchEvent) (k : ℕ) (value : Happened) (d : Departure)
     → TellsTurn c k value d → TellsEvent c so_far value (event_at k (Left d))
 turn-tells c so_far k (Ended at v) d tells = (d, ap (λ j. event_at j (Left d)) (sym tells.0), tells.1)
-turn-tells c so_far k (Carried at s) d tells =
-    (d, ap (λ j. event_at j (Left d)) (sym tells.0), subst (λ j. IsSent c j s d) (sym tells.0) tells.1)
-turn-tells c so_far k (Came b) d tells = absurd tells
+turn-tells c so_far k (Carried at time tag) d tells = (d, ap (λ j. event_at j (Left d)) (sym tells.0), tells.1)
+turn-tells c so_far k (Came at time tag verdict early) d tells = absurd tells
 
 -- ---- before the list's next frame
 
@@ -76,25 +74,25 @@ turn-line end until false ms (line ∷ lines) le from =
 
 ring-by : (c : Plan) (transit : List InTransit) (ring : List OnCable) (until : ℕ)
     → AreInTransit c transit ring
-    → AllByRecursion (λ v. (as_given v.departed.departure).end ≤ until) transit
+    → AllByRecursion (λ v. (as_given v.departure).end ≤ until) transit
     → AllByRecursion (λ r. r.turn.end ≤ until) ring
 ring-by c [] [] until are by = tt
 ring-by c [] (r ∷ ring) until are by = absurd are
 ring-by c (v ∷ transit) [] until are by = absurd are
 ring-by c (v ∷ transit) (r ∷ ring) until are by = (
-  (let end : (as_given v.departed.departure).end ≡ r.turn.end = ap (λ (l : LeftOver HeldFrame). l.end) are.0.left in
+  (let end : (as_given v.departure).end ≡ r.turn.end = ap (λ (l : LeftOver HeldFrame). l.end) are.0.left in
       let le = by.0 in omega (arith, end, le)),
   ring-by c transit ring until are.1 by.1,
 )
 
 transit-by : (c : Plan) (transit : List InTransit) (ring : List OnCable) (time until : ℕ)
     → time ≤ until → AllByRecursion (λ r. r.turn.end ≡ time) ring → AreInTransit c transit ring
-    → AllByRecursion (λ v. (as_given v.departed.departure).end ≤ until) transit
+    → AllByRecursion (λ v. (as_given v.departure).end ≤ until) transit
 transit-by c [] [] time until soon ends are = tt
 transit-by c [] (r ∷ ring) time until soon ends are = absurd are
 transit-by c (v ∷ transit) [] time until soon ends are = absurd are
 transit-by c (v ∷ transit) (r ∷ ring) time until soon ends are = (
-  (let end : (as_given v.departed.departure).end ≡ r.turn.end = ap (λ (l : LeftOver HeldFrame). l.end) are.0.left in
+  (let end : (as_given v.departure).end ≡ r.turn.end = ap (λ (l : LeftOver HeldFrame). l.end) are.0.left in
       let at = ends.0 in omega (arith, end, at, soon)),
   transit-by c transit ring time until soon ends.1 are.1,
 )
@@ -139,7 +137,7 @@ stands-same c so_far w new st same = record {
 pub until-same : (w new : Cascade) (time : ℕ) → IsUntil w time → IsUnchanged w new → IsUntil new time
 until-same w new time is same = record {
   networks = λ k n at. is.networks k n (subst (λ ns. slice_get ns k ≡ Some n) same.networks at);
-  transit = subst (λ vs. AllByRecursion (λ v. (as_given v.departed.departure).end ≤ time) vs)
+  transit = subst (λ vs. AllByRecursion (λ v. (as_given v.departure).end ≤ time) vs)
       (sym same.transit) is.transit;
 }
 
@@ -151,8 +149,8 @@ module _ (c : Plan) (so_far : List SwitchEvent) (w new : Cascade) (until : ℕ)
     (keys : AreKeys new.networks.items new.keys.items)
     (least : IsLeast new.keys.items new.least) where
   -- a cable brought a frame
-  module _ (b : Brought)
-      (next : BringsNext c new.networks.items new.transit.items st.time st.ring so_far b) where
+  module _ (value : Happened)
+      (next : BringsNext c new.networks.items new.transit.items st.time st.ring so_far value) where
     soon : st.time ≤ until
     soon =
         let le = (subst (λ zs. AllByRecursion (λ r. r.turn.end ≤ until) zs) next.are
@@ -166,29 +164,37 @@ module _ (c : Plan) (so_far : List SwitchEvent) (w new : Cascade) (until : ℕ)
         (subst (λ zs. AllByRecursion (λ r. r.turn.end ≤ until) zs) next.are
         (ring-by c w.transit.items st.ring until st.in_transit by.transit)).0
 
-    pub came-next : GivesNext c new until so_far (Came b)
-    came-next = record {
-      event = arriving c so_far b.switch (brought next.r.side b.port next.r.turn);
-      next = λ lines from. next.is.next lines
-          (frame-line next.r.turn.end until
-          (side_number next.r.side ∷ next.r.from.switch ∷ next.r.from.port ∷ []) lines frame-soon from);
-      tells = record {
-        arrival = brought next.r.side b.port next.r.turn;
+    abbrev came : SwitchEvent
+    came = arriving c so_far next.is.arrived.at.switch (brought next.r.side next.is.arrived.at.port next.r.turn)
+
+    came-tells : TellsEvent c so_far value came
+    came-tells = subst (λ v. TellsEvent c so_far v came) (sym next.is.arrived.is) (
+      (record {
+        arrival = brought next.r.side next.is.arrived.at.port next.r.turn;
         is = refl;
         side = next.is.arrived.side;
         port = refl;
-        time = next.is.arrived.time_is;
-        tag = next.is.arrived.tag;
-        verdict = next.is.arrived.verdict;
-        early = next.is.arrived.early;
-      };
+        tag_is = refl;
+        tells = next.is.arrived.tells;
+        was_early = next.is.arrived.was_early;
+      }),
+      refl,
+    )
+
+    pub came-next : GivesNext c new until so_far value
+    came-next = record {
+      event = came;
+      next = λ lines from. next.is.next lines
+          (frame-line next.r.turn.end until
+          (side_number next.r.side ∷ next.r.from.switch ∷ next.r.from.port ∷ []) lines frame-soon from);
+      tells = came-tells;
       stands = record {
         count = size ∙ st.count;
         some = st.some;
         few = st.few;
         time = st.time;
         inside = all-inside c new.networks.items
-            (arriving c so_far b.switch (brought next.r.side b.port next.r.turn) ∷ so_far)
+            (came ∷ so_far)
             next.is.keeps.stands.all (size ∙ st.count);
         ring = next.rest;
         keeps = next.is.keeps;
@@ -346,7 +352,7 @@ line-next c so_far w new line st quiet by free ends transit ns is size keys leas
       };
       clock = record {
         networks = λ k n at. clock k n (subst (λ zs. slice_get zs k ≡ Some n) is at);
-        transit = subst (λ vs. AllByRecursion (λ v. (as_given v.departed.departure).end ≤ line.arrival.time) vs)
+        transit = subst (λ vs. AllByRecursion (λ v. (as_given v.departure).end ≤ line.arrival.time) vs)
             (sym transit) by.transit;
       };
     }
@@ -383,5 +389,5 @@ pub new-until : (w : Cascade)
     → w.transit.items ≡ [] → IsUntil w 0
 new-until w clock none = record {
   networks = clock;
-  transit = subst (λ vs. AllByRecursion (λ v. (as_given v.departed.departure).end ≤ 0) vs) (sym none) tt;
+  transit = subst (λ vs. AllByRecursion (λ v. (as_given v.departure).end ≤ 0) vs) (sym none) tt;
 }

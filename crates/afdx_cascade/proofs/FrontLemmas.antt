@@ -28,6 +28,7 @@ use Rattle.afdx_cascade.specs.Due.{OnCable, IsRing, frame_place}
 use Rattle.afdx_cascade.specs.Found.{AllStand, FindsLeast}
 use Rattle.afdx_cascade.specs.Keeping.{Keeps, FrontCanArrive, FrontKeeps, LineKeeps, StartKeeps}
 use Rattle.afdx_cascade.specs.Scan.{IsFirstFrom}
+use Rattle.afdx_cascade.specs.Turning.{switch_of}
 use Rattle.afdx_cascade.specs.declared.scan.FirstTurn.{FirstTurn}
 use Rattle.afdx_cascade.proofs.BehindLemmas.{arrival-behind}
 use Rattle.afdx_cascade.proofs.ComesLemmas.{told-from, quiet-then}
@@ -87,7 +88,7 @@ least-late c so_far f time found late j side =
 
 pub front-can : FrontCanArrive
 front-can c so_far networks time r rest f v keeps is late on =
-    let end : (as_given v.departed.departure).end ≡ time =
+    let end : (as_given v.departure).end ≡ time =
     ap (λ (l : LeftOver HeldFrame). l.end) on.left ∙ keeps.stands.carried.at_time.0 in
     record {
       within = keeps.within r.from.switch r.from.port (end_at v.switch v.port) on.to;
@@ -130,25 +131,28 @@ front-first c so_far networks time r rest f to keeps is late joined lines before
 
 pub front-keeps : FrontKeeps
 front-keeps c so_far old networks transit time r rest f value keeps is late arrives size clock quiet =
-    let x = brought r.side value.port r.turn in
-    let a = admission_after (c.tables value.switch) (came_to value.switch so_far) x in
+    let x = brought r.side arrives.at.port r.turn in
+    let a = admission_after (c.tables arrives.at.switch) (came_to arrives.at.switch so_far) x in
     let after = quiet-at c networks
-    (event_at value.switch (Came a) ∷ so_far) time value.switch arrives.stands.all quiet in
+    (event_at arrives.at.switch (Came a) ∷ so_far) time arrives.at.switch arrives.stands.all
+    (subst (λ v. (n : Network) → slice_get networks (switch_of v) ≡ Some n → network.IsQuiet n time)
+    arrives.is quiet) in
     record {
       next = λ lines before.
-          front-first c so_far old time r rest f (end_at value.switch value.port) keeps is late arrives.to lines before;
+          front-first c so_far old time r rest f (end_at arrives.at.switch arrives.at.port) keeps is late arrives.to
+          lines before;
       keeps = record {
         plan = keeps.plan;
         within = λ k port e joined. (let w = keeps.within k port e joined in
             omega (arith, w, size));
         stands = arrives.stands;
-        behind = arrival-behind c so_far rest value.switch a time
+        behind = arrival-behind c so_far rest arrives.at.switch a time
             (ends-by time rest keeps.stands.carried.at_time.1)
             (λ side port s low high next. after side port s low high
-            (subst (λ es. IsNextOn (c.tables value.switch) es side port s)
-            (sym (at-same value.switch (Came a) so_far)) next))
+            (subst (λ es. IsNextOn (c.tables arrives.at.switch) es side port s)
+            (sym (at-same arrives.at.switch (Came a) so_far)) next))
             keeps.behind.1;
-        later = later-then c so_far value.switch a time keeps.later after;
+        later = later-then c so_far arrives.at.switch a time keeps.later after;
         clock = clock;
         soon = elim keeps.soon [ inl none ↦ absurd (cc none) | inr le ↦ inr le ];
       };

@@ -18,8 +18,8 @@ use Rattle.afdx_cascade.specs.Scan.{IsFirstFrom}
 use Rattle.afdx_cascade.specs.Cables.{brought}
 use Rattle.afdx_cascade.specs.Keeping.{Keeps, IsEarly, IsFrontNext, BringsNext, LacksForFront, LacksForTurn}
 use Rattle.afdx_cascade.specs.Standing.{Stands}
-use Rattle.afdx_cascade.specs.Turning.{AreInTransit, IsInTransit, CanArrive, ArrivesAt}
-use Rattle.afdx_cascade.specs.declared.told.Brought.{Brought}
+use Rattle.afdx_cascade.specs.Turning.{AreInTransit, IsInTransit, CanArrive, ArrivesAt, switch_of}
+use Rattle.afdx_cascade.specs.declared.told.Happened.{Happened}
 use Rattle.afdx_cascade.specs.declared.cable.InTransit.{InTransit}
 use Rattle.afdx_cascade.specs.declared.scan.FirstTurn.{FirstTurn}
 use Rattle.afdx_cascade.proofs.ComesLemmas.{scan-comes, told-from, quiet-then}
@@ -90,7 +90,7 @@ record Fronts (c : Plan) (transit : List InTransit) (time order : ℕ)
   pub ring_is : ring ≡ r ∷ rest
   pub on : IsInTransit c v r
   pub front_is : slice_get transit 0 ≡ Some v
-  pub end_is : (as_given v.departed.departure).end ≡ time
+  pub end_is : (as_given v.departure).end ≡ time
   pub late : 2 * time < order
 
 fronts-from : (c : Plan) (transit : List InTransit) (time order : ℕ) (ring : List OnCable)
@@ -100,7 +100,7 @@ fronts-from : (c : Plan) (transit : List InTransit) (time order : ℕ) (ring : L
 fronts-from c [] time order ring ends are late = absurd late
 fronts-from c (v ∷ behind) time order [] ends are late = absurd are
 fronts-from c (v ∷ behind) time order (r ∷ rest) ends are late =
-    let end : (as_given v.departed.departure).end ≡ time =
+    let end : (as_given v.departure).end ≡ time =
     ap (λ (l : Left HeldFrame). l.end) are.0.left ∙ ends.0 in
     record {
       v = v;
@@ -120,14 +120,14 @@ pub front-limit : (c : Plan) (networks : List Network) (time : ℕ) (ring : List
     (so_far : List SwitchEvent)
     (transit : List InTransit) → Keeps c networks time ring so_far → AreInTransit c transit ring
     → (v : InTransit) → slice_get transit 0 ≡ Some v
-    → (as_given v.departed.departure).end ≤ 1000032768000000
+    → (as_given v.departure).end ≤ 1000032768000000
 front-limit c networks time ring so_far [] keeps are v here = absurd (cc here)
 front-limit c networks time [] so_far (w ∷ behind) keeps are v here = absurd are
 front-limit c networks time (r ∷ rest) so_far (w ∷ behind) keeps are v here =
     let same : w ≡ v = cc here in
-    let end : (as_given w.departed.departure).end ≡ time =
+    let end : (as_given w.departure).end ≡ time =
     ap (λ (l : Left HeldFrame). l.end) are.0.left ∙ keeps.stands.carried.at_time.0 in
-    subst (λ (z : InTransit). (as_given z.departed.departure).end ≤ 1000032768000000) same
+    subst (λ (z : InTransit). (as_given z.departure).end ≤ 1000032768000000) same
     (elim keeps.soon [ inl none ↦ absurd (cc none) | inr le ↦ omega (arith, end, le) ])
 
 module _ (c : Plan) (networks : List Network) (time : ℕ) (ring : List OnCable)
@@ -138,7 +138,7 @@ module _ (c : Plan) (networks : List Network) (time : ℕ) (ring : List OnCable)
   pub front-asked : (v : InTransit) × (behind : List InTransit) × (transit ≡ v ∷ behind)
       × CanArrive networks v
       × ((k : ℕ) (n : Network) → slice_get networks k ≡ Some n
-      → network.IsUntil n (as_given v.departed.departure).end)
+      → network.IsUntil n (as_given v.departure).end)
   front-asked =
       let p = fronts-from c transit time f.order ring keeps.stands.carried.at_time are next in (
         p.v,
@@ -169,16 +169,16 @@ module _ (c : Plan) (networks : List Network) (time : ℕ) (ring : List OnCable)
         sound = sound p.v p.r p.rest all.stands p.front_is p.on;
       }
 
-  pub front-brings : (new : List Network) (left : List InTransit) (value : Brought)
+  pub front-brings : (new : List Network) (left : List InTransit) (value : Happened)
       → ((r : OnCable) (rest : List OnCable) → Stands c networks time (r ∷ rest) so_far
       → AreInTransit c transit (r ∷ rest) → ArrivesAt c new left time r rest so_far value)
       → length new ≡ length networks
       → ((v : InTransit) → slice_get transit 0 ≡ Some v → (k : ℕ) (n : Network)
       → slice_get new k ≡ Some n
-      → network.IsUntil n (as_given v.departed.departure).end)
+      → network.IsUntil n (as_given v.departure).end)
       → ((v : InTransit) → slice_get transit 0 ≡ Some v → (n : Network)
       → slice_get new v.switch ≡ Some n
-      → network.IsQuiet n (as_given v.departed.departure).end)
+      → network.IsQuiet n (as_given v.departure).end)
       → BringsNext c new left time ring so_far value
   front-brings new left value arrives size clock still =
       let p = fronts-from c transit time f.order ring keeps.stands.carried.at_time are next in
@@ -186,9 +186,10 @@ module _ (c : Plan) (networks : List Network) (time : ℕ) (ring : List OnCable)
       subst (λ zs. Keeps c networks time zs so_far) p.ring_is keeps in
       let arrived = arrives p.r p.rest all.stands
       (subst (λ zs. AreInTransit c transit zs) p.ring_is are) in
-      let ends : end_at p.v.switch p.v.port ≡ end_at value.switch value.port =
+      let ends : end_at p.v.switch p.v.port ≡ end_at arrived.at.switch arrived.at.port =
       same-end p.on.to arrived.to in
-      let switch : p.v.switch ≡ value.switch = ap (λ (e : End). e.switch) ends in
+      let switch : p.v.switch ≡ switch_of value =
+      ap (λ (e : End). e.switch) ends ∙ sym (ap switch_of arrived.is) in
       record {
         r = p.r;
         rest = p.rest;

@@ -2,15 +2,15 @@
 use Rattle.std.proofs.Common.{◌≡◌, ℕ, false, List, [], ◌∷◌, ◌++◌, refl, sym, subst, ap, ◌∙◌, inl, inr}
 use Rattle.std.proofs.Common.{arith, ◌≤◌}
 use Rattle.std.specs.Prelude.{Some, Result, Ok, Err, OnErr, drop, slice_get, slice_index_or}
-use Rattle.afdx_switch.specs.Departures.{as_given}
-use Rattle.afdx_network.specs.declared.network.Departed.{Departed}
+use Rattle.afdx_switch.specs.Departures.{as_given, giving_side}
+use Rattle.afdx_switch.specs.declared.switch.Departure.{Departure}
 use Rattle.afdx_network.specs.declared.network.Network.{Network}
 use Rattle.afdx_cascade.specs.Due.{OnCable}
 use Rattle.afdx_cascade.specs.SwitchEvents.{Plan, End, SwitchEvent, end_at}
 use Rattle.afdx_cascade.specs.Standing.{IsLast}
-use Rattle.afdx_cascade.specs.Turning.{GivesAt, IsInTransit, AreInTransit, IsSent, TurnsAt}
+use Rattle.afdx_cascade.specs.Turning.{GivesAt, IsInTransit, AreInTransit, IsCarried, TurnsAt}
 use Rattle.afdx_cascade.specs.declared.cable.InTransit.{InTransit}
-use Rattle.afdx_cascade.specs.declared.told.Sent.{Sent}
+use Rattle.afdx_cascade.specs.declared.told.SitedPort.{SitedPort}
 use Rattle.afdx_cascade.specs.declared.told.Happened.TheVariants.{Ended, Carried}
 
 pub transit-pushed : (c : Plan) (transit : List InTransit) (ring : List OnCable) (v : InTransit)
@@ -25,7 +25,7 @@ transit-pushed c (w ∷ transit) [] v r are is = absurd are
 
 module _ (c : Plan) (networks : List Network) (transit : List InTransit) (time : ℕ)
     (ring : List OnCable)
-    (so_far : List SwitchEvent) (k until : ℕ) (value : Departed)
+    (so_far : List SwitchEvent) (k until : ℕ) (value : Departure)
     (g : GivesAt c networks time ring so_far k until value)
     (are : AreInTransit c transit ring) where
   not-last : (to : End) → g.departure.turn.too_old ≡ false → g.departure.turn.end ≤ 1000032768000000
@@ -48,15 +48,15 @@ module _ (c : Plan) (networks : List Network) (transit : List InTransit) (time :
     carried = λ to young soon joined early below. absurd (not-last to young soon joined silent);
   }
 
-  pub turns-carried : (s : Sent) (v : InTransit) (grown : List InTransit) → IsSent c k s g.departure
-      → v.departed ≡ value
+  pub turns-carried : (at : SitedPort) (when tag : ℕ) (v : InTransit) (grown : List InTransit)
+      → at.switch ≡ k → IsCarried c at when tag g.departure → v.departure ≡ value
       → g.departure.turn.too_old ≡ false → g.departure.turn.end ≤ 1000032768000000
       → c.far_end k g.departure.port ≡ Some (end_at v.switch v.port)
-      → grown ≡ transit ++ v ∷ [] → TurnsAt c networks grown time ring so_far k until (Carried k s)
-  turns-carried s v grown sent own young soon joined is = record {
+      → grown ≡ transit ++ v ∷ [] → TurnsAt c networks grown time ring so_far k until (Carried at when tag)
+  turns-carried at when tag v grown here carried own young soon joined is = record {
     departure = g.departure;
     in_time = g.in_time;
-    tells = (refl, sent);
+    tells = (here, carried);
     new = g.new;
     stands = g.stands;
     next = g.next;
@@ -73,8 +73,8 @@ module _ (c : Plan) (networks : List Network) (transit : List InTransit) (time :
           subst (λ w. AreInTransit c w (ring ++ r ∷ [])) (sym is)
           (transit-pushed c transit ring v r are (record {
             to = joined;
-            side = ap (λ (d : Departed). d.side) own ∙ g.hands.side;
-            left = ap (λ (d : Departed). as_given d.departure) own ∙ g.hands.left;
+            side = ap giving_side own ∙ g.hands.side;
+            left = ap as_given own ∙ g.hands.left;
           }))),
     );
   }

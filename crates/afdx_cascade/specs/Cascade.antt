@@ -16,11 +16,11 @@ use Rattle.afdx_cascade.specs.Keys.{AreKeys, IsLeast}
 use Rattle.afdx_cascade.specs.Runs.{Line, IsDue, IsFirstDue, IsNextLine, arriving, event_at}
 use Rattle.afdx_cascade.specs.Scan.{switches_most}
 use Rattle.afdx_cascade.specs.SwitchEvents.{Plan, SwitchEvent, HaveBroughtAll, IsInPlan, came_to}
-use Rattle.afdx_cascade.specs.Turning.{AreEnds, AreInTransit, IsSent, WasEarlyBy}
+use Rattle.afdx_cascade.specs.Turning.{AreEnds, AreInTransit, IsCarried, WasEarlyBy}
 use Rattle.afdx_cascade.specs.declared.cascade.Cascade.{Cascade}
-use Rattle.afdx_cascade.specs.declared.told.Brought.{Brought}
 use Rattle.afdx_cascade.specs.declared.told.Happened.{Happened}
 use Rattle.afdx_cascade.specs.declared.told.Happened.TheVariants.{Ended, Carried, Came}
+use Rattle.afdx_cascade.specs.declared.told.SitedPort.{SitedPort}
 
 -- how many switches a side has
 abbrev pub switch_count : Cascade → ℕ
@@ -51,7 +51,7 @@ pub record IsUntil (w : Cascade) (time : ℕ) : Type 0 where
   pub networks : (k : ℕ) (n : Network) →
       slice_get w.networks.items k ≡ Some n →
       network.IsUntil n time
-  pub transit : AllByRecursion (λ v. (as_given v.departed.departure).end ≤ time) w.transit.items
+  pub transit : AllByRecursion (λ v. (as_given v.departure).end ≤ time) w.transit.items
 
 -- `take(time)` would answer that nothing happens
 pub record IsQuiet (w : Cascade) (time : ℕ) : Type 0 where
@@ -75,25 +75,26 @@ abbrev pub AreFrom : ℕ → List Line → Type 0
 AreFrom until [] = Unit {0}
 AreFrom until (line ∷ lines) = until ≤ line.arrival.time
 
--- a frame that a cable brought, and what became of it
-pub record TellsArrival (c : Plan) (so_far : List SwitchEvent) (b : Brought) (h : SwitchEvent) :
-    Type 0 where
+-- a frame that came to a port, of the list or over a cable, and what became of it
+pub record TellsArrival (c : Plan) (so_far : List SwitchEvent) (at : SitedPort) (tag : ℕ)
+    (verdict : Verdict) (early : ℕ) (h : SwitchEvent) : Type 0 where
   pub arrival : Arrival
-  pub is : h ≡ arriving c so_far b.switch arrival
-  pub side : b.side ≡ arrival.side
-  pub port : b.port ≡ arrival.port
-  pub time : b.time ≡ arrival.time
-  pub tag : b.tag ≡ arrival.tag
-  pub verdict : network.Tells b.verdict
-      (admission_after (c.tables b.switch) (came_to b.switch so_far) arrival)
-  pub early : WasEarlyBy (c.tables b.switch) (came_to b.switch so_far) arrival b.early
+  pub is : h ≡ arriving c so_far at.switch arrival
+  pub side : at.side ≡ arrival.side
+  pub port : at.port ≡ arrival.port
+  pub tag_is : tag ≡ arrival.tag
+  pub tells : network.Tells verdict
+      (admission_after (c.tables at.switch) (came_to at.switch so_far) arrival)
+  pub was_early : WasEarlyBy (c.tables at.switch) (came_to at.switch so_far) arrival early
 
 -- what is told is the event
 abbrev pub TellsEvent : Plan → List SwitchEvent → Happened → SwitchEvent → Type 0
 TellsEvent c so_far (Ended k value) h =
     (d : Departure) × (h ≡ event_at k (Left d)) × network.Hands value d
-TellsEvent c so_far (Carried k s) h = (d : Departure) × (h ≡ event_at k (Left d)) × IsSent c k s d
-TellsEvent c so_far (Came b) h = TellsArrival c so_far b h
+TellsEvent c so_far (Carried at time tag) h =
+    (d : Departure) × (h ≡ event_at at.switch (Left d)) × IsCarried c at time tag d
+TellsEvent c so_far (Came at time tag verdict early) h =
+    (told : TellsArrival c so_far at tag verdict early h) × (time ≡ told.arrival.time)
 
 -- an event is told: the next one of each list whose next frame comes at `until` or later
 pub record GivesNext (c : Plan) (new : Cascade) (until : ℕ) (so_far : List SwitchEvent)

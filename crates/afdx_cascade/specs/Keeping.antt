@@ -20,9 +20,8 @@ use Rattle.afdx_cascade.specs.SwitchEvents.{Plan, IsPlan, End, SwitchEvent, at_s
 use Rattle.afdx_cascade.specs.Runs.{Line, IsBeforeLine, IsFirstDue, IsNextLine, arriving, event_at, IsDue}
 use Rattle.afdx_cascade.specs.Scan.{IsFirstFrom}
 use Rattle.afdx_cascade.specs.Standing.{Stands, AreDueAfter}
-use Rattle.afdx_cascade.specs.Turning.{AreInTransit, IsInTransit, ArrivesAt, CanArrive, TurnsAt, TellsTurn}
+use Rattle.afdx_cascade.specs.Turning.{AreInTransit, IsInTransit, ArrivesAt, CanArrive, TurnsAt, TellsTurn, switch_of}
 use Rattle.afdx_cascade.specs.declared.scan.FirstTurn.{FirstTurn}
-use Rattle.afdx_cascade.specs.declared.told.Brought.{Brought}
 use Rattle.afdx_cascade.specs.declared.cable.InTransit.{InTransit}
 use Rattle.afdx_cascade.specs.declared.told.Happened.{Happened}
 
@@ -90,27 +89,29 @@ FrontCanArrive =
 
 -- the frame at the front arrived: it is the next event, and they keep to it too
 pub record FrontIsNext (c : Plan) (networks : List Network) (transit : List InTransit) (time : ℕ)
-    (r : OnCable) (rest : List OnCable) (so_far : List SwitchEvent) (value : Brought) : Type 0 where
+    (r : OnCable) (rest : List OnCable) (so_far : List SwitchEvent) (value : Happened) :
+    Type 0 where
+  pub arrived : ArrivesAt c networks transit time r rest so_far value
   pub next : (lines : List Line) →
       IsBeforeLine (frame_place r) lines →
-      IsFirstDue c so_far lines (arriving c so_far value.switch (brought r.side value.port r.turn))
+      IsFirstDue c so_far lines
+      (arriving c so_far arrived.at.switch (brought r.side arrived.at.port r.turn))
   pub keeps : Keeps c networks time rest
-      (arriving c so_far value.switch (brought r.side value.port r.turn) ∷ so_far)
+      (arriving c so_far arrived.at.switch (brought r.side arrived.at.port r.turn) ∷ so_far)
   pub in_transit : AreInTransit c transit rest
-  pub arrived : ArrivesAt c networks transit time r rest so_far value
 
 -- So it is where no slot was still to end at its time.
 abbrev pub FrontKeeps : Type 0
 FrontKeeps =
     (c : Plan) (so_far : List SwitchEvent) (old networks : List Network) (transit : List InTransit)
-    (time : ℕ) (r : OnCable) (rest : List OnCable) (f : FirstTurn) (value : Brought) →
+    (time : ℕ) (r : OnCable) (rest : List OnCable) (f : FirstTurn) (value : Happened) →
     Keeps c old time (r ∷ rest) so_far →
     IsFirstFrom 0 old (Some f) →
     2 * time < f.order →
     ArrivesAt c networks transit time r rest so_far value →
     length networks ≡ length old →
     ((k : ℕ) (n : Network) → slice_get networks k ≡ Some n → network.IsUntil n time) →
-    ((n : Network) → slice_get networks value.switch ≡ Some n → network.IsQuiet n time) →
+    ((n : Network) → slice_get networks (switch_of value) ≡ Some n → network.IsQuiet n time) →
     FrontIsNext c networks transit time r rest so_far value
 
 -- a frame of the list arrived: it is the next event, and they keep to it too
@@ -153,11 +154,11 @@ pub record TurnsNext (c : Plan) (networks : List Network) (transit : List InTran
 -- in the order of turns
 abbrev pub IsFrontNext : List InTransit → ℕ → Type 0
 IsFrontNext [] order = ⊥
-IsFrontNext (v ∷ behind) order = 2 * (as_given v.departed.departure).end < order
+IsFrontNext (v ∷ behind) order = 2 * (as_given v.departure).end < order
 
 -- the next event is the arrival of the frame at the front
 pub record BringsNext (c : Plan) (networks : List Network) (transit : List InTransit) (time : ℕ)
-    (ring : List OnCable) (so_far : List SwitchEvent) (value : Brought) : Type 0 where
+    (ring : List OnCable) (so_far : List SwitchEvent) (value : Happened) : Type 0 where
   pub r : OnCable
   pub rest : List OnCable
   pub are : ring ≡ r ∷ rest

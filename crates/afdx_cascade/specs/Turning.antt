@@ -8,7 +8,7 @@ use Rattle.afdx_police.specs.Verdicts.{is_over_rate}
 use Rattle.afdx_port.specs.Due.{IsBy}
 use Rattle.afdx_port.specs.History.{left_of, due_at}
 use Rattle.afdx_port.specs.Times.{latest_put}
-use Rattle.afdx_switch.specs.Departures.{as_given}
+use Rattle.afdx_switch.specs.Departures.{as_given, giving_side}
 use Rattle.afdx_switch.specs.Early.{IsEarlyBy}
 use Rattle.afdx_switch.specs.Switching.{IsNextOf}
 use Rattle.afdx_switch.specs.Verdicts.{reason_of}
@@ -21,13 +21,13 @@ use Rattle.afdx_cascade.specs.SwitchEvents.{Plan, End, SwitchEvent, at_switch, c
 use Rattle.afdx_cascade.specs.Runs.{event_at, arriving}
 use Rattle.afdx_cascade.specs.Standing.{Stands, IsLast}
 use Rattle.afdx_cascade.specs.Cables.{brought}
-use Rattle.afdx_network.specs.declared.network.Departed.{Departed}
-use Rattle.afdx_cascade.specs.declared.told.Brought.{Brought}
+use Rattle.afdx_switch.specs.declared.switch.Departure.{Departure as HandedOut}
+use Rattle.afdx_switch.specs.declared.verdict.Verdict.{Verdict}
 use Rattle.afdx_cascade.specs.declared.told.Happened.{Happened}
 use Rattle.afdx_cascade.specs.declared.told.Happened.TheVariants.{Ended, Carried, Came}
 use Rattle.afdx_config.specs.declared.switches.FarEnd.{FarEnd}
 use Rattle.afdx_cascade.specs.declared.cable.InTransit.{InTransit}
-use Rattle.afdx_cascade.specs.declared.told.Sent.{Sent}
+use Rattle.afdx_cascade.specs.declared.told.SitedPort.{SitedPort}
 
 -- ---- the ends of cables, in a table of 25 entries a switch
 
@@ -46,13 +46,21 @@ end_in ends k port = end_of (entry_in (slice_get ends (k * 25 + port)))
 abbrev pub AreEnds : Plan → List (Option FarEnd) → Type 0
 AreEnds c ends = (k port : ℕ) → port ≤ last_port → c.far_end k port ≡ end_in ends k port
 
+-- ---- what is told
+
+-- the switch at which it happened
+abbrev pub switch_of : Happened → ℕ
+switch_of (Ended k value) = k
+switch_of (Carried at time tag) = at.switch
+switch_of (Came at time tag verdict early) = at.switch
+
 -- ---- the ring
 
 -- it is that frame, and says where its cable ends
 pub record IsInTransit (c : Plan) (v : InTransit) (r : OnCable) : Type 0 where
   pub to : c.far_end r.from.switch r.from.port ≡ Some (end_at v.switch v.port)
-  pub side : v.departed.side ≡ r.side
-  pub left : as_given v.departed.departure ≡ left_of r.turn
+  pub side : giving_side v.departure ≡ r.side
+  pub left : as_given v.departure ≡ left_of r.turn
 
 -- they are these frames, in order
 abbrev pub AreInTransit : Plan → List InTransit → List OnCable → Type 0
@@ -66,7 +74,7 @@ AreInTransit c (v ∷ vs) [] = ⊥
 -- the network of a switch gave its first turn by then: its departure is handed out, and networks
 -- and ring stand for it too
 pub record GivesAt (c : Plan) (networks : List Network) (time : ℕ) (ring : List OnCable)
-    (so_far : List SwitchEvent) (k until : ℕ) (value : Departed) : Type 0 where
+    (so_far : List SwitchEvent) (k until : ℕ) (value : HandedOut) : Type 0 where
   pub departure : Departure
   pub in_time : IsBy until (due_at departure.turn)
   pub hands : network.Hands value departure
@@ -91,18 +99,18 @@ pub record GivesAt (c : Plan) (networks : List Network) (time : ℕ) (ring : Lis
       (event_at k (Left departure) ∷ so_far)
 
 -- what is told of a slot at a port of a switch where a cable is
-pub record IsSent (c : Plan) (k : ℕ) (s : Sent) (d : Departure) : Type 0 where
+pub record IsCarried (c : Plan) (at : SitedPort) (time tag : ℕ) (d : Departure) : Type 0 where
   pub left : d.turn.too_old ≡ false
-  pub cable : (to : End) × (c.far_end k d.port ≡ Some to)
-  pub side : s.side ≡ d.side
-  pub port : s.port ≡ d.port
-  pub time : s.time ≡ d.turn.end
-  pub tag : s.tag ≡ d.turn.entry.item.tag
+  pub cable : (to : End) × (c.far_end at.switch d.port ≡ Some to)
+  pub side : at.side ≡ d.side
+  pub port : at.port ≡ d.port
+  pub time_is : time ≡ d.turn.end
+  pub tag_is : tag ≡ d.turn.entry.item.tag
 
 abbrev pub TellsTurn : Plan → ℕ → Happened → Departure → Type 0
 TellsTurn c k (Ended at value) d = (at ≡ k) × network.Hands value d
-TellsTurn c k (Carried at s) d = (at ≡ k) × IsSent c k s d
-TellsTurn c k (Came b) d = ⊥
+TellsTurn c k (Carried at time tag) d = (at.switch ≡ k) × IsCarried c at time tag d
+TellsTurn c k (Came at time tag verdict early) d = ⊥
 
 -- the network of a switch gave its first turn by then, and networks and ring stand for it too: no
 -- cable carries its frame, or it joined the ring
@@ -137,13 +145,13 @@ pub record TurnsAt (c : Plan) (networks : List Network) (transit : List InTransi
 -- the network at the other end of its cable can take it
 pub record CanArrive (networks : List Network) (v : InTransit) : Type 0 where
   pub within : v.switch < length networks
-  pub limit : (as_given v.departed.departure).end ≤ latest_put
+  pub limit : (as_given v.departure).end ≤ latest_put
   pub clock : (n : Network) →
       slice_get networks v.switch ≡ Some n →
-      network.IsUntil n (as_given v.departed.departure).end
+      network.IsUntil n (as_given v.departure).end
   pub quiet : (n : Network) →
       slice_get networks v.switch ≡ Some n →
-      network.IsQuiet n (as_given v.departed.departure).end
+      network.IsQuiet n (as_given v.departure).end
 
 -- by how much an arrival came too early, if it was dropped for its link's rate; else 0
 abbrev pub IsWait : (was_dropped : Bool) → Rows → List Arrival → Arrival → ℕ → Type 0
@@ -155,16 +163,18 @@ WasEarlyBy t past x wait = IsWait (is_over_rate (reason_of t past x)) t past x w
 
 -- it arrived, and left the ring; what is told of it
 pub record ArrivesAt (c : Plan) (networks : List Network) (transit : List InTransit) (time : ℕ)
-    (r : OnCable) (rest : List OnCable) (so_far : List SwitchEvent) (value : Brought) : Type 0 where
-  pub to : c.far_end r.from.switch r.from.port ≡ Some (end_at value.switch value.port)
+    (r : OnCable) (rest : List OnCable) (so_far : List SwitchEvent) (value : Happened) :
+    Type 0 where
+  pub at : SitedPort
+  pub verdict : Verdict
+  pub early : ℕ
+  pub is : value ≡ Came at r.turn.end r.turn.entry.item.tag verdict early
+  pub side : at.side ≡ r.side
+  pub to : c.far_end r.from.switch r.from.port ≡ Some (end_at at.switch at.port)
   pub stands : Stands c networks time rest
-      (arriving c so_far value.switch (brought r.side value.port r.turn) ∷ so_far)
+      (arriving c so_far at.switch (brought r.side at.port r.turn) ∷ so_far)
   pub in_transit : AreInTransit c transit rest
-  pub side : value.side ≡ r.side
-  pub time_is : value.time ≡ r.turn.end
-  pub tag : value.tag ≡ r.turn.entry.item.tag
-  pub verdict : network.Tells value.verdict
-      (admission_after (c.tables value.switch) (came_to value.switch so_far)
-      (brought r.side value.port r.turn))
-  pub early : WasEarlyBy (c.tables value.switch) (came_to value.switch so_far)
-      (brought r.side value.port r.turn) value.early
+  pub tells : network.Tells verdict (admission_after (c.tables at.switch)
+      (came_to at.switch so_far) (brought r.side at.port r.turn))
+  pub was_early : WasEarlyBy (c.tables at.switch) (came_to at.switch so_far)
+      (brought r.side at.port r.turn) early

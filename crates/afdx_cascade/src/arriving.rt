@@ -11,7 +11,7 @@ ghost use Rattle.afdx_network.specs.Network as network;
 ghost use Rattle.afdx_network.specs.Events.{admission_after};
 ghost use Rattle.afdx_cascade.specs.Due.{OnCable};
 ghost use Rattle.afdx_port.specs.History.{left_of};
-ghost use Rattle.afdx_switch.specs.Departures.{as_given};
+ghost use Rattle.afdx_switch.specs.Departures.{as_given, giving_side};
 ghost use Rattle.afdx_cascade.specs.Cables.{brought};
 ghost use Rattle.afdx_cascade.specs.SwitchEvents.{Plan, IsPlan, SwitchEvent, came_to, end_at};
 ghost use Rattle.afdx_cascade.specs.Runs.{arriving};
@@ -22,25 +22,18 @@ ghost use Rattle.afdx_switch.specs.Early.{IsEarlyBy};
 ghost use Rattle.afdx_switch.specs.Verdicts.{shape_fault};
 ghost use Rattle.afdx_cascade.specs.Turning.{GivesAt, WasEarlyBy};
 
-use afdx_frame::{Checked, Side};
-use afdx_network::{Departed, Network};
+use crate::told::SitedPort;
+use afdx_frame::Checked;
+use afdx_network::Network;
 use afdx_police::Reason;
-use afdx_switch::Verdict;
+use afdx_switch::{Departure, Verdict};
 use std::alloc::AllocError;
-
-/// A port of one of several switches, by its place, at which frames come in.
-#[derive(Clone, Copy, Debug)]
-pub(crate) struct EntryPort {
-    pub switch: usize,
-    pub side: Side,
-    pub port: u8,
-}
 
 /// A frame of the list arrives at a switch, at a port where no cable is. The error says that memory
 /// was refused: then nothing has changed. A frame that is dropped for its shape needs none.
 pub(crate) fn arrive_at(
     networks: &mut [Network],
-    to: EntryPort,
+    to: SitedPort,
     time: u64,
     tag: u64,
     frame: Checked<'_>,
@@ -77,7 +70,7 @@ pub(crate) fn arrive_at(
 
 /// By how many nanoseconds a frame comes too early that arrives at a switch at `time`, if none
 /// comes before it.
-pub(crate) fn early_at(networks: &[Network], to: EntryPort, time: u64, frame: Checked<'_>) -> u64
+pub(crate) fn early_at(networks: &[Network], to: SitedPort, time: u64, frame: Checked<'_>) -> u64
     requires within { to.switch < length networks.now }
     requires clock { (n : At) → slice_get networks.now to.switch ≡ Some n → network.IsUntil n time }
     ensures { (c : Plan) (so_far : List SwitchEvent) (tag : ℕ) → AllStand c networks.now so_far →
@@ -89,7 +82,7 @@ pub(crate) fn early_at(networks: &[Network], to: EntryPort, time: u64, frame: Ch
 }
 
 /// The next turn of a switch that is given by `until`.
-pub(crate) fn take_at(networks: &mut [Network], switch: usize, until: u64) -> Option<Departed>
+pub(crate) fn take_at(networks: &mut [Network], switch: usize, until: u64) -> Option<Departure>
     requires within { switch < length networks.old }
     requires clock { (k : ℕ) (n : At) → slice_get networks.old k ≡ Some n →
         network.IsUntil n until }
@@ -113,41 +106,40 @@ pub(crate) fn bring_at(
     networks: &mut [Network],
     switch: usize,
     port: u8,
-    departed: &Departed,
+    departure: &Departure,
 ) -> Result<Verdict, AllocError>
     requires within { switch < length networks.old }
-    requires limit { (as_given departed.now.departure).end ≤ latest_put }
+    requires limit { (as_given departure.now).end ≤ latest_put }
     requires clock { (k : ℕ) (n : At) → slice_get networks.old k ≡ Some n →
-        network.IsUntil n (as_given departed.now.departure).end }
+        network.IsUntil n (as_given departure.now).end }
     requires quiet { (n : At) → slice_get networks.old switch ≡ Some n →
-        network.IsQuiet n (as_given departed.now.departure).end }
+        network.IsQuiet n (as_given departure.now).end }
     ensures clock { (k : ℕ) (n : At) → slice_get networks.new k ≡ Some n →
-        network.IsUntil n (as_given departed.now.departure).end }
+        network.IsUntil n (as_given departure.now).end }
     ensures still { (n : At) → slice_get networks.new switch ≡ Some n →
-        network.IsQuiet n (as_given departed.now.departure).end }
+        network.IsQuiet n (as_given departure.now).end }
     ensures length { length networks.new ≡ length networks.old }
     ensures others { AreOthersSame switch networks.old networks.new }
     ensures stands { (c : Plan) (at : ℕ) (r : OnCable) (rest : List OnCable)
         (so_far : List SwitchEvent) → IsPlan c →
         Stands c networks.old at (r ∷ rest) so_far →
         c.far_end r.from.switch r.from.port ≡ Some (end_at switch port) →
-        departed.now.side ≡ r.side → as_given departed.now.departure ≡ left_of r.turn →
+        giving_side departure.now ≡ r.side → as_given departure.now ≡ left_of r.turn →
         OnOk result (Stands c networks.new at rest
         (arriving c so_far switch (brought r.side port r.turn) ∷ so_far)) }
     ensures verdict { (c : Plan) (at : ℕ) (r : OnCable) (rest : List OnCable)
         (so_far : List SwitchEvent) → Stands c networks.old at (r ∷ rest) so_far →
-        departed.now.side ≡ r.side → as_given departed.now.departure ≡ left_of r.turn →
+        giving_side departure.now ≡ r.side → as_given departure.now ≡ left_of r.turn →
         IfOk result (λ verdict. network.Tells verdict
         (admission_after (c.tables switch) (came_to switch so_far) (brought r.side port r.turn))) }
     ensures judged { (c : Plan) (at : ℕ) (r : OnCable) (rest : List OnCable)
         (so_far : List SwitchEvent) → Stands c networks.old at (r ∷ rest) so_far →
-        departed.now.side ≡ r.side → as_given departed.now.departure ≡ left_of r.turn →
+        giving_side departure.now ≡ r.side → as_given departure.now ≡ left_of r.turn →
         OnErr result (shape_fault (c.tables switch) (brought r.side port r.turn) ≡ None) }
     ensures refused { OnErr result (networks.new ≡ networks.old) }
 {
-    let departure = &departed.departure;
     networks[switch].arrive(
-        departed.side,
+        departure.side(),
         departure.time(),
         port,
         departure.tag(),
@@ -156,11 +148,11 @@ pub(crate) fn bring_at(
 }
 
 /// Gives a departure back to the switch that it was from, if there is one of this number.
-pub(crate) fn give_back_at(networks: &mut [Network], switch: usize, departed: Departed)
+pub(crate) fn give_back_at(networks: &mut [Network], switch: usize, departure: Departure)
     ensures { networks.new ≡ networks.old }
 {
     if switch < networks.len() {
-        networks[switch].give_back(departed);
+        networks[switch].give_back(departure);
     }
 }
 
@@ -180,28 +172,27 @@ pub(crate) fn early_by(
     networks: &[Network],
     switch: usize,
     port: u8,
-    departed: &Departed,
+    departure: &Departure,
     verdict: Verdict,
 ) -> u64
     requires within { switch < length networks.now }
     requires clock { (n : At) → slice_get networks.now switch ≡ Some n →
-        network.IsUntil n (as_given departed.now.departure).end }
+        network.IsUntil n (as_given departure.now).end }
     ensures { (c : Plan) (so_far : List SwitchEvent) (r : OnCable) →
         let x = brought r.side port r.turn in
         AllStand c networks.now (arriving c so_far switch x ∷ so_far) →
-        departed.now.side ≡ r.side → as_given departed.now.departure ≡ left_of r.turn →
+        giving_side departure.now ≡ r.side → as_given departure.now ≡ left_of r.turn →
         network.Tells verdict (admission_after (c.tables switch) (came_to switch so_far) x) →
         WasEarlyBy (c.tables switch) (came_to switch so_far) x result }
 {
     if !is_over_rate(verdict) {
         return 0;
     }
-    let departure = &departed.departure;
     let time = departure.time();
     let frame = departure.frame();
-    let to = EntryPort {
+    let to = SitedPort {
         switch,
-        side: departed.side,
+        side: departure.side(),
         port,
     };
     early_at(networks, to, time, frame)

@@ -5,7 +5,7 @@ ghost use Rattle.afdx_cascade.specs.Scan.{switches_most};
 ghost use Rattle.afdx_cascade.specs.Turning.{entry_in};
 
 use afdx_config::FarEnd;
-use afdx_network::Departed;
+use afdx_switch::Departure;
 
 /// How many entries a switch has in a table of the ends of cables: for the numbers 0 to 24, of
 /// which 1 to 24 are its ports.
@@ -18,7 +18,7 @@ pub(crate) struct InTransit {
     pub switch: usize,
     pub port: u8,
     pub from: usize,
-    pub departed: Departed,
+    pub departure: Departure,
 }
 
 /// The other end of the cable at a port of the switch of this number, if one is there.

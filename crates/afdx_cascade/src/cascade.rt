@@ -4,12 +4,12 @@ ghost use Rattle.std.specs.Prelude.{◌≡◌, ℕ, ◌<◌, ◌≤◌, List, []
 ghost use Rattle.afdx_frame.specs.Parts.{bytes_of};
 ghost use Rattle.afdx_port.specs.Times.{latest_put};
 
-use crate::arriving::{EntryPort, arrive_at, early_at};
+use crate::arriving::{arrive_at, early_at};
 use crate::build::{new_ends, new_keys, new_networks};
 use crate::cable::InTransit;
 use crate::scan::{first_of, least_of, renew};
 use crate::taking::{bring_next, turn_next};
-use crate::told::Happened;
+use crate::told::{Happened, SitedPort};
 use afdx_config::{FarEnd, Switches};
 use afdx_frame::{Checked, Side};
 use afdx_network::Network;
@@ -89,7 +89,7 @@ impl Cascade {
             OnErr result (shape_fault (c.tables switch) x ≡ None) }
         ensures refused { OnErr result (IsUnchanged self.old self.new) }
     {
-        let to = EntryPort { switch, side, port };
+        let to = SitedPort { switch, side, port };
         let verdict = arrive_at(&mut self.networks, to, time, tag, frame)?;
         self.least = renew(&mut self.keys, self.least, &self.networks, switch);
         Ok(verdict)
@@ -109,7 +109,7 @@ impl Cascade {
     {
         early_at(
             &self.networks,
-            EntryPort { switch, side, port },
+            SitedPort { switch, side, port },
             time,
             frame,
         )
@@ -135,9 +135,9 @@ impl Cascade {
     {
         let first = first_of(self.least);
         if let Some(brought) = bring_next(&mut self.networks, &mut self.transit, first)? {
-            let switch = brought.switch;
+            let switch = brought.switch();
             self.least = renew(&mut self.keys, self.least, &self.networks, switch);
-            return Ok(Some(Happened::Came(brought)));
+            return Ok(Some(brought));
         }
         let (ends, transit) = (&self.ends, &mut self.transit);
         match turn_next(&mut self.networks, ends, transit, first, until)? {

@@ -13,4 +13,4 @@ mod told;
 mod turning;
 
 pub use cascade::Cascade;
-pub use told::{Brought, Happened, Sent};
+pub use told::{Happened, SitedPort};

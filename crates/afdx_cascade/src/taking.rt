@@ -11,11 +11,11 @@ ghost use Rattle.afdx_cascade.specs.Keeping.{Keeps, TurnsNext, BringsNext, IsFro
 ghost use Rattle.afdx_cascade.specs.Keeping.{LacksForFront, LacksForTurn};
 ghost use Rattle.afdx_cascade.specs.Keys.{AreOthersSame};
 ghost use Rattle.afdx_cascade.specs.Scan.{IsFirstFrom, switches_most};
-ghost use Rattle.afdx_cascade.specs.Turning.{AreEnds, AreInTransit};
+ghost use Rattle.afdx_cascade.specs.Turning.{AreEnds, AreInTransit, switch_of};
 
 use crate::cable::InTransit;
 use crate::scan::FirstTurn;
-use crate::told::{Brought, Happened};
+use crate::told::Happened;
 use crate::turning::{front_at, turn_at};
 use afdx_config::FarEnd;
 use afdx_network::Network;
@@ -38,12 +38,12 @@ fn given_at(order: u64) -> u64
 /// the order of turns.
 fn is_front_next(transit: &VecDeque<InTransit>, order: u64) -> bool
     requires { (v : InTransit) → slice_get transit.now.items 0 ≡ Some v →
-        (as_given v.departed.departure).end ≤ latest_put }
+        (as_given v.departure).end ≤ latest_put }
     ensures { IsTrue result ↔ IsFrontNext transit.now.items order }
 {
     match transit.front() {
         None => false,
-        Some(front) => 2 * front.departed.departure.time() < order,
+        Some(front) => 2 * front.departure.time() < order,
     }
 }
 
@@ -54,7 +54,7 @@ pub(crate) fn bring_next(
     networks: &mut [Network],
     transit: &mut VecDeque<InTransit>,
     first: FirstTurn,
-) -> Result<Option<Brought>, AllocError>
+) -> Result<Option<Happened>, AllocError>
     requires first { IsFirstFrom 0 networks.old (Some first) }
     requires sound { (c : Plan) × (time : ℕ) × (ring : List OnCable) × (so_far : List SwitchEvent)
         × Keeps c networks.old time ring so_far × AreInTransit c transit.old.items ring }
@@ -68,9 +68,9 @@ pub(crate) fn bring_next(
     ensures same { IfOk result (λ o. IfNone o ((networks.new ≡ networks.old)
         × (transit.new.items ≡ transit.old.items))) }
     ensures length { length networks.new ≡ length networks.old }
-    ensures within { IfOk result (λ o. IfSome o (λ b. b.switch < length networks.old)) }
+    ensures within { IfOk result (λ o. IfSome o (λ b. switch_of b < length networks.old)) }
     ensures others { IfOk result (λ o. IfSome o (λ b.
-        AreOthersSame b.switch networks.old networks.new)) }
+        AreOthersSame (switch_of b) networks.old networks.new)) }
     ensures judged { (c : Plan) (time : ℕ) (ring : List OnCable) (so_far : List SwitchEvent) →
         Keeps c networks.old time ring so_far → AreInTransit c transit.old.items ring →
         OnErr result (LacksForFront c ring so_far) }

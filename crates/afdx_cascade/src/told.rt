@@ -1,40 +1,52 @@
 //! What is told of an event at one of several switches.
 
+ghost use Rattle.std.specs.Prelude.{◌≡◌};
+ghost use Rattle.afdx_cascade.specs.Turning.{switch_of};
+
 use afdx_frame::Side;
-use afdx_network::Departed;
-use afdx_switch::Verdict;
+use afdx_switch::{Departure, Verdict};
 
-/// The slot of a frame that a cable now carries: the port that it left and when, in ns, and its
-/// tag.
+/// A port of one of several switches, which have the numbers of their places in the file.
 #[derive(Clone, Copy, Debug)]
-pub struct Sent {
-    pub side: Side,
-    pub port: u8,
-    pub time: u64,
-    pub tag: u64,
-}
-
-/// A frame that a cable brought to a port of the switch of this number, when, in ns, and what
-/// became of it there. If it was dropped for its link's rate, `early` is by how many ns it came too
-/// early, else 0.
-#[derive(Clone, Copy, Debug)]
-pub struct Brought {
+pub struct SitedPort {
     pub switch: usize,
     pub side: Side,
     pub port: u8,
-    pub time: u64,
-    pub tag: u64,
-    pub verdict: Verdict,
-    pub early: u64,
 }
 
 /// What happened at one of several switches.
 #[derive(Drop)]
 pub enum Happened {
     /// A frame left the switch of this number, and the switches, or was dropped there.
-    Ended(usize, Departed),
-    /// A frame left the switch of this number, and a cable carries it now.
-    Carried(usize, Sent),
-    /// A cable brought a frame.
-    Came(Brought),
+    Ended {
+        switch: usize,
+        departure: Departure,
+    },
+    /// A frame left this port at this time, in ns, and a cable carries it now.
+    Carried {
+        at: SitedPort,
+        time: u64,
+        tag: u64,
+    },
+    /// A cable brought a frame to this port at this time, in ns, and what became of it there. If it
+    /// was dropped for its link's rate, `early` is by how many ns it came too early, else 0.
+    Came {
+        at: SitedPort,
+        time: u64,
+        tag: u64,
+        verdict: Verdict,
+        early: u64,
+    },
+}
+
+impl Happened {
+    /// The number of the switch at which it happened.
+    pub(crate) fn switch(&self) -> usize
+        ensures { result ≡ switch_of self.now }
+    {
+        match self {
+            Happened::Ended { switch, .. } => *switch,
+            Happened::Carried { at, .. } | Happened::Came { at, .. } => at.switch,
+        }
+    }
 }

@@ -14,11 +14,11 @@ ghost use Rattle.afdx_cascade.specs.Scan.{switches_most};
 ghost use Rattle.afdx_cascade.specs.Standing.{Stands};
 ghost use Rattle.afdx_cascade.specs.Cables.{brought};
 ghost use Rattle.afdx_cascade.specs.Turning.{AreEnds, AreInTransit, IsInTransit, TurnsAt, ArrivesAt};
-ghost use Rattle.afdx_cascade.specs.Turning.{CanArrive};
+ghost use Rattle.afdx_cascade.specs.Turning.{CanArrive, switch_of};
 
 use crate::arriving::{bring_at, early_by, give_back_at, take_at};
 use crate::cable::{InTransit, far_end};
-use crate::told::{Brought, Happened, Sent};
+use crate::told::{Happened, SitedPort};
 use afdx_config::FarEnd;
 use afdx_network::Network;
 use std::alloc::AllocError;
@@ -52,32 +52,28 @@ pub(crate) fn turn_at(
         AreInTransit c transit.old.items ring →
         IfSome result (TurnsAt c networks.new transit.new.items at ring so_far switch until) }
 {
-    let departed = take_at(networks, switch, until)?;
-    let departure = &departed.departure;
+    let departure = take_at(networks, switch, until)?;
     if departure.too_old() {
-        return Some(Happened::Ended(switch, departed));
+        return Some(Happened::Ended { switch, departure });
     }
     let time = departure.time();
     if time > LATEST_ARRIVAL {
-        return Some(Happened::Ended(switch, departed));
+        return Some(Happened::Ended { switch, departure });
     }
     let port = departure.port();
     match far_end(ends, switch, port) {
-        None => Some(Happened::Ended(switch, departed)),
+        None => Some(Happened::Ended { switch, departure }),
         Some(to) => {
-            let sent = Sent {
-                side: departed.side,
-                port,
-                time,
-                tag: departure.tag(),
-            };
+            let side = departure.side();
+            let tag = departure.tag();
             transit.push_back_reserved(InTransit {
                 switch: to.switch.0 as usize,
                 port: to.port,
                 from: switch,
-                departed,
+                departure,
             });
-            Some(Happened::Carried(switch, sent))
+            let at = SitedPort { switch, side, port };
+            Some(Happened::Carried { at, time, tag })
         }
     }
 }
@@ -87,20 +83,20 @@ pub(crate) fn turn_at(
 pub(crate) fn front_at(
     networks: &mut [Network],
     transit: &mut VecDeque<InTransit>,
-) -> Result<Brought, AllocError>
+) -> Result<Happened, AllocError>
     requires front { (v : InTransit) × (behind : List InTransit) × (transit.old.items ≡ v ∷ behind)
         × CanArrive networks.old v
         × ((k : ℕ) (n : At) → slice_get networks.old k ≡ Some n →
-        network.IsUntil n (as_given v.departed.departure).end) }
+        network.IsUntil n (as_given v.departure).end) }
     ensures clock { (v : InTransit) → slice_get transit.old.items 0 ≡ Some v →
         (k : ℕ) (n : At) → slice_get networks.new k ≡ Some n →
-        network.IsUntil n (as_given v.departed.departure).end }
+        network.IsUntil n (as_given v.departure).end }
     ensures still { (v : InTransit) → slice_get transit.old.items 0 ≡ Some v →
         (n : At) → slice_get networks.new v.switch ≡ Some n →
-        network.IsQuiet n (as_given v.departed.departure).end }
+        network.IsQuiet n (as_given v.departure).end }
     ensures length { length networks.new ≡ length networks.old }
-    ensures within { IfOk result (λ b. b.switch < length networks.old) }
-    ensures others { IfOk result (λ b. AreOthersSame b.switch networks.old networks.new) }
+    ensures within { IfOk result (λ b. switch_of b < length networks.old) }
+    ensures others { IfOk result (λ b. AreOthersSame (switch_of b) networks.old networks.new) }
     ensures arrives { (c : Plan) (at : ℕ) (r : OnCable) (rest : List OnCable)
         (so_far : List SwitchEvent) → IsPlan c →
         Stands c networks.old at (r ∷ rest) so_far →
@@ -119,11 +115,11 @@ pub(crate) fn front_at(
     };
     let switch = front.switch;
     let port = front.port;
-    let side = front.departed.side;
-    let time = front.departed.departure.time();
-    let tag = front.departed.departure.tag();
-    let verdict = bring_at(networks, switch, port, &front.departed)?;
-    let early = early_by(networks, switch, port, &front.departed, verdict);
+    let side = front.departure.side();
+    let time = front.departure.time();
+    let tag = front.departure.tag();
+    let verdict = bring_at(networks, switch, port, &front.departure)?;
+    let early = early_by(networks, switch, port, &front.departure, verdict);
     let Some(arrived) = transit.pop_front() else {
         unreachable!()
     };
@@ -131,13 +127,12 @@ pub(crate) fn front_at(
         switch: _,
         port: _,
         from,
-        departed,
+        departure,
     } = arrived;
-    give_back_at(networks, from, departed);
-    Ok(Brought {
-        switch,
-        side,
-        port,
+    give_back_at(networks, from, departure);
+    let at = SitedPort { switch, side, port };
+    Ok(Happened::Came {
+        at,
         time,
         tag,
         verdict,

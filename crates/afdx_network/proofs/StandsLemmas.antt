@@ -20,6 +20,7 @@ use Rattle.afdx_switch.specs.Switching as switch
 use Rattle.afdx_switch.specs.Switching.{SwitchHistory, PortTurn, IsNextAt, IsNextOf, IsDue, IsDone}
 use Rattle.afdx_switch.specs.Switching.{GoesBefore, taken_at, with_arrival, with_take}
 use Rattle.afdx_switch.specs.Tables.{byte_ns_at, entries_at}
+use Rattle.afdx_switch.specs.Departures.{on_side}
 use Rattle.afdx_switch.specs.declared.switch.Departure as switch_departure
 use Rattle.afdx_switch.specs.declared.switch_state.SwitchState.{SwitchState}
 use Rattle.afdx_switch.proofs.LawLemmas.{other-side-apart}
@@ -344,7 +345,7 @@ module _ (t : Rows) (n : Network) (events : List Event) (st : StandsFor t n even
       ((port : ℕ) → 1 ≤ port → port ≤ 24 → IfNone due_b
       (IsDone t B (calls_on B events (switch.last_time n.switches.b)) port)) →
       switch.Gives t A (calls_on A events (switch.last_time n.switches.a)) until value a
-      → Gives t events until (record { side = A; departure = value })
+      → Gives t events until (on_side A value)
       (record { switches = record { a = a; b = n.switches.b } })
   gives-a a until value due_a due_b first clock comes_a comes_b done_b g =
       let due : IsDue t A (calls_on A events (switch.last_time n.switches.a)) first.due =
@@ -372,7 +373,7 @@ module _ (t : Rows) (n : Network) (events : List Event) (st : StandsFor t n even
       ((port : ℕ) → 1 ≤ port → port ≤ 24 → IfNone due_a
       (IsDone t A (calls_on A events (switch.last_time n.switches.a)) port)) →
       switch.Gives t B (calls_on B events (switch.last_time n.switches.b)) until value b
-      → Gives t events until (record { side = B; departure = value })
+      → Gives t events until (on_side B value)
       (record { switches = record { a = n.switches.a; b = b } })
   gives-b b until value due_a due_b first clock comes_b comes_a done_a g =
       let due : IsDue t B (calls_on B events (switch.last_time n.switches.b)) first.due =
@@ -568,7 +569,7 @@ module _ (t : Rows) (n : Network) (events : List Event) (st : StandsFor t n even
       ((port : ℕ) → 1 ≤ port → port ≤ 24 → IfNone due_b
       (IsDone t B (calls_on B events (switch.last_time n.switches.b)) port)) →
       switch.Gives t side (calls_on side events (switch.last_time (on side n.switches))) until value new
-      → Gives t events until (record { side = side; departure = value })
+      → Gives t events until (on_side side value)
       (record { switches = with_on side n.switches new })
   gives-at A new until value due_a due_b first clock comes_a comes_b done_a done_b gives =
       gives-a new until value due_a due_b first clock.on_a comes_a comes_b done_b gives

@@ -10,19 +10,19 @@ use Rattle.afdx_port.specs.Due.{IsBy, order_of}
 use Rattle.afdx_port.specs.History.{left_of, due_at}
 use Rattle.afdx_port.specs.Schedule.{Turn}
 use Rattle.afdx_switch.specs.Calls as calls
-use Rattle.afdx_switch.specs.Departures.{as_given, giving_port}
+use Rattle.afdx_switch.specs.Departures.{as_given, giving_port, giving_side}
 use Rattle.afdx_switch.specs.HeldFrames.{HeldFrame}
 use Rattle.afdx_switch.specs.Switching as switch
 use Rattle.afdx_switch.specs.Switching.{IsNextAt, IsNextOf, taken_at}
 use Rattle.afdx_switch.specs.Ports.{holds}
 use Rattle.afdx_switch.specs.declared.ports.PortSet.{PortSet}
+use Rattle.afdx_switch.specs.declared.switch.Departure.{Departure as HandedOut}
 use Rattle.afdx_switch.specs.Verdicts.{numbers}
 use Rattle.afdx_switch.specs.declared.verdict.Verdict.{Verdict}
 use Rattle.afdx_switch.specs.declared.verdict.Verdict.TheVariants.{Dropped, Accepted}
 use Rattle.afdx_network.specs.Events.{Event, Came, Left, Admission, Departure, departure_with, admission_after, arrivals_in, turns_on, calls_on}
 use Rattle.afdx_network.specs.First.{IsFirstOf}
 use Rattle.afdx_network.specs.Order.{IsAmong, AreInOrder, is_below, is_before, key, side_number}
-use Rattle.afdx_network.specs.declared.network.Departed.{Departed}
 use Rattle.afdx_network.specs.declared.network.Network.{Network}
 
 -- the event is what becomes of an arrival after these, or the next turn of a port
@@ -110,10 +110,10 @@ pub record StandsFor (t : Rows) (n : Network) (events : List Event) : Type 0 whe
       is_before e (Left (departure_after events side port s)) ≡ true
 
 -- what is handed out for a departure
-pub record Hands (value : Departed) (d : Departure) : Type 0 where
-  pub side : value.side ≡ d.side
-  pub port : giving_port value.departure ≡ d.port
-  pub left : as_given value.departure ≡ left_of d.turn
+pub record Hands (value : HandedOut) (d : Departure) : Type 0 where
+  pub side : giving_side value ≡ d.side
+  pub port : giving_port value ≡ d.port
+  pub left : as_given value ≡ left_of d.turn
 
 -- no turn of either side goes before this one of a side
 abbrev pub GoesFirst : Rows → List Event → Side → Turn HeldFrame → Type 0
@@ -126,7 +126,7 @@ GoesFirst t events side s = (other : Side) (port : ℕ) (r : Turn HeldFrame) →
 
 -- the next event is a departure, it is given by then, and its frame is handed out; it is the first
 -- turn of its side's switch, and of both
-pub record Gives (t : Rows) (events : List Event) (until : ℕ) (value : Departed)
+pub record Gives (t : Rows) (events : List Event) (until : ℕ) (value : HandedOut)
     (new : Network) : Type 0 where
   pub departure : Departure
   pub in_time : IsBy until (due_at departure.turn)

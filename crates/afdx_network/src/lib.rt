@@ -6,4 +6,4 @@
 pub mod laws;
 mod network;
 
-pub use network::{Departed, Network};
+pub use network::Network;

@@ -14,13 +14,6 @@ use afdx_port::TurnOrder;
 use afdx_switch::{Departure, Switch, Verdict};
 use std::alloc::{AllocError, Global};
 
-/// A departure, and the side of the switch that it is from.
-#[derive(Drop)]
-pub struct Departed {
-    pub side: Side,
-    pub departure: Departure,
-}
-
 /// The first of the next turns of both sides: where it stands in the order of turns, and its side,
 /// which is A if both stand at one place.
 fn first_of(order_a: TurnOrder, order_b: TurnOrder) -> (TurnOrder, Side)
@@ -148,7 +141,7 @@ impl Network {
     /// before those too old, then side A before side B, then by port. If `until` is 1.2e15 or
     /// later, None says that these were all events.
     #[inline(always)]
-    pub fn take(&mut self, until: u64) -> Option<Departed>
+    pub fn take(&mut self, until: u64) -> Option<Departure>
         requires clock { IsUntil self.old until }
         ensures given { (t : Rows) (events : List Event) → StandsFor t self.old events →
             IfSome result (λ value. Gives t events until value self.new) }
@@ -162,16 +155,16 @@ impl Network {
     {
         let side = first_side(self.switches.a.order(), self.switches.b.order(), until)?;
         let departure = self.switches.get_mut(side).take(until)?;
-        Some(Departed { side, departure })
+        Some(departure.on(side))
     }
 
     /// Gives a departure back, of these switches or of others, once its frame was read: a frame
     /// that comes later on its side takes its memory. What the switches hold, and what they will
     /// do, stays the same.
-    pub fn give_back(&mut self, departed: Departed)
+    pub fn give_back(&mut self, departure: Departure)
         ensures { self.new ≡ self.old }
     {
-        let Departed { side, departure } = departed;
+        let side = departure.side();
         self.switches.get_mut(side).give_back(departure);
     }
 }

@@ -7,7 +7,8 @@ use Rattle.afdx_cascade.specs.Plans.{plan_of, tables_of}
 use Rattle.afdx_cascade.specs.Runs.{arriving, event_at}
 use Rattle.afdx_cascade.specs.SwitchEvents.{SwitchEvent, came_to}
 use Rattle.afdx_cascade.specs.Turning.{IsWait}
-use Rattle.afdx_cascade.specs.declared.told.Brought.{Brought}
+use Rattle.afdx_cascade.specs.declared.told.SitedPort.{SitedPort}
+use Rattle.afdx_switch.specs.declared.verdict.Verdict.{Verdict}
 use Rattle.afdx_config.specs.Switches.{NamedRows}
 use Rattle.afdx_command_tables.specs.declared.summary.Summary.{Summary}
 use Rattle.afdx_end_systems.specs.declared.systems.Systems.{Systems}
@@ -37,49 +38,49 @@ abbrev pub told_lines : ℕ → Side → (name : List ℕ) → Option Reason →
 told_lines n side name reason lost =
     verdict_line n (place_text side name) reason ++ loss_lines n (place_text side name) lost
 
-module _ (s : List NamedRows) (before : List SwitchEvent) (b : Brought) (h : SwitchEvent)
-    (tells : TellsArrival (plan_of s) before b h) where
+module _ (s : List NamedRows) (before : List SwitchEvent) (at : SitedPort) (tag : ℕ) (v : Verdict) (wait : ℕ)
+    (h : SwitchEvent) (tells : TellsArrival (plan_of s) before at tag v wait h) where
   -- its lines, by the name of its switch
-  lines-are : (name : List ℕ) → name ≡ switch_name s b.switch
-      → told_lines b.tag b.side name (network.reason_in b.verdict) (network.lost_in b.verdict)
-      ≡ event_lines s before (arriving (plan_of s) before b.switch tells.arrival)
+  lines-are : (name : List ℕ) → name ≡ switch_name s at.switch
+      → told_lines tag at.side name (network.reason_in v) (network.lost_in v)
+      ≡ event_lines s before (arriving (plan_of s) before at.switch tells.arrival)
   lines-are name named =
-      ap (λ n. told_lines n b.side name (network.reason_in b.verdict) (network.lost_in b.verdict)) tells.tag
-      ∙ ap (λ z. told_lines tells.arrival.tag z name (network.reason_in b.verdict) (network.lost_in b.verdict))
+      ap (λ n. told_lines n at.side name (network.reason_in v) (network.lost_in v)) tells.tag_is
+      ∙ ap (λ z. told_lines tells.arrival.tag z name (network.reason_in v) (network.lost_in v))
       tells.side
-      ∙ ap (λ n. told_lines tells.arrival.tag tells.arrival.side n (network.reason_in b.verdict)
-      (network.lost_in b.verdict)) named
-      ∙ lines-told (switch_name s b.switch) b.verdict
-      (admission_after (tables_of s b.switch) (came_to b.switch before) tells.arrival) tells.verdict
+      ∙ ap (λ n. told_lines tells.arrival.tag tells.arrival.side n (network.reason_in v)
+      (network.lost_in v)) named
+      ∙ lines-told (switch_name s at.switch) v
+      (admission_after (tables_of s at.switch) (came_to at.switch before) tells.arrival) tells.tells
 
   -- an arrival is told
   pub told-arrival : (all : List Systems) (name : List ℕ) (old counts : Summary) (x y : Known)
-      → name ≡ switch_name s b.switch → SystemsAre s all before
-      → counts ≡ with_admission old (network.reason_in b.verdict) (length (network.lost_in b.verdict))
-      → Appends x y (told_lines b.tag b.side name (network.reason_in b.verdict) (network.lost_in b.verdict))
+      → name ≡ switch_name s at.switch → SystemsAre s all before
+      → counts ≡ with_admission old (network.reason_in v) (length (network.lost_in v))
+      → Appends x y (told_lines tag at.side name (network.reason_in v) (network.lost_in v))
       → TellsOne s all old counts x y before h
   told-arrival all name old counts x y named are more written =
       subst (λ e. TellsOne s all old counts x y before e) (sym tells.is) (record {
-        systems_are = systems-kept s all b.switch before are
-            (Came (admission_after (tables_of s b.switch) (came_to b.switch before) tells.arrival)) (λ es. refl);
+        systems_are = systems-kept s all at.switch before are
+            (Came (admission_after (tables_of s at.switch) (came_to at.switch before) tells.arrival)) (λ es. refl);
         counted = more
-            ∙ ap (λ r. with_admission old r (length (network.lost_in b.verdict))) tells.verdict.reason
-            ∙ ap (λ (l : List ℕ). with_admission old (reason_of (tables_of s b.switch) (came_to b.switch before)
-            tells.arrival) (length l)) tells.verdict.lost;
+            ∙ ap (λ r. with_admission old r (length (network.lost_in v))) tells.tells.reason
+            ∙ ap (λ (l : List ℕ). with_admission old (reason_of (tables_of s at.switch) (came_to at.switch before)
+            tells.arrival) (length l)) tells.tells.lost;
         written = subst (λ (l : List ℕ). Appends x y l) (lines-are name named) written;
       })
 
-  pub begun-arrival : (name : List ℕ) (x y : Known) → name ≡ switch_name s b.switch
-      → AppendsFront x y (told_lines b.tag b.side name (network.reason_in b.verdict) (network.lost_in b.verdict))
+  pub begun-arrival : (name : List ℕ) (x y : Known) → name ≡ switch_name s at.switch
+      → AppendsFront x y (told_lines tag at.side name (network.reason_in v) (network.lost_in v))
       → AppendsFront x y (event_lines s before h)
   begun-arrival name x y named written =
       subst (λ e. AppendsFront x y (event_lines s before e)) (sym tells.is)
       (subst (λ (l : List ℕ). AppendsFront x y l) (lines-are name named) written)
 
   module _ {D : Type 0} (contents : D → Option (List ℕ)) (reason : Option Reason)
-      (is : reason ≡ network.reason_in b.verdict) where
+      (is : reason ≡ network.reason_in v) where
     abbrev Line : List ℕ → Type 0
-    Line = IsLineOf s b.switch before (Came (admission_after (tables_of s b.switch) (came_to b.switch before)
+    Line = IsLineOf s at.switch before (Came (admission_after (tables_of s at.switch) (came_to at.switch before)
         tells.arrival))
 
     -- what a device hears then
@@ -89,27 +90,27 @@ module _ (s : List NamedRows) (before : List SwitchEvent) (b : Brought) (h : Swi
     hears start early now = subst (λ g. HearsEarly contents s start early (g ∷ before)) (sym tells.is) now
 
     over-is : (over : Bool) (line : List ℕ) → is_over_rate reason ≡ over
-        → IsLineOn (tables_of s b.switch) (came_to b.switch before) tells.arrival
-        (Some (place_text tells.arrival.side (switch_name s b.switch))) over line → Line line
+        → IsLineOn (tables_of s at.switch) (came_to at.switch before) tells.arrival
+        (Some (place_text tells.arrival.side (switch_name s at.switch))) over line → Line line
     over-is over line =
-        line-on (tables_of s b.switch) (came_to b.switch before) tells.arrival reason (is ∙ tells.verdict.reason)
-        (Some (place_text tells.arrival.side (switch_name s b.switch))) over line
+        line-on (tables_of s at.switch) (came_to at.switch before) tells.arrival reason (is ∙ tells.tells.reason)
+        (Some (place_text tells.arrival.side (switch_name s at.switch))) over line
 
     -- it was dropped for its link's rate
     pub heard-early : (name : List ℕ) (start : Option (Watched D)) (drops after : Watched D)
-        → name ≡ switch_name s b.switch → is_over_rate reason ≡ true
-        → Tells contents drops after (early_line b.tag (Some (place_text b.side name)) b.early)
+        → name ≡ switch_name s at.switch → is_over_rate reason ≡ true
+        → Tells contents drops after (early_line tag (Some (place_text at.side name)) wait)
         → HearsEarly contents s start (Some drops) before → HearsEarly contents s start (Some after) (h ∷ before)
     heard-early name start drops after named over told was =
         hears start (Some after) (hears-more contents (AreEarlyLines s before) Line start drops after
-        (early_line b.tag (Some (place_text b.side name)) b.early)
-        (over-is true (early_line b.tag (Some (place_text b.side name)) b.early) over (
-          b.early,
-          subst (λ (o : Bool). IsWait o (tables_of s b.switch) (came_to b.switch before) tells.arrival b.early)
-              (sym (ap is_over_rate (is ∙ tells.verdict.reason)) ∙ over) tells.early,
-          ap (λ n. early_line n (Some (place_text b.side name)) b.early) tells.tag
-              ∙ ap (λ z. early_line tells.arrival.tag (Some (place_text z name)) b.early) tells.side
-              ∙ ap (λ n. early_line tells.arrival.tag (Some (place_text tells.arrival.side n)) b.early) named,
+        (early_line tag (Some (place_text at.side name)) wait)
+        (over-is true (early_line tag (Some (place_text at.side name)) wait) over (
+          wait,
+          subst (λ (o : Bool). IsWait o (tables_of s at.switch) (came_to at.switch before) tells.arrival wait)
+              (sym (ap is_over_rate (is ∙ tells.tells.reason)) ∙ over) tells.was_early,
+          ap (λ n. early_line n (Some (place_text at.side name)) wait) tells.tag_is
+              ∙ ap (λ z. early_line tells.arrival.tag (Some (place_text z name)) wait) tells.side
+              ∙ ap (λ n. early_line tells.arrival.tag (Some (place_text tells.arrival.side n)) wait) named,
         )) told was)
 
     -- or wasn't

@@ -8,7 +8,6 @@ use Rattle.afdx_cascade.specs.Plans.{plan_of, tables_of}
 use Rattle.afdx_cascade.specs.Runs.{Line, arriving}
 use Rattle.afdx_cascade.specs.SwitchEvents.{SwitchEvent, at_switch, came_to}
 use Rattle.afdx_cascade.specs.declared.cascade.Cascade.{Cascade}
-use Rattle.afdx_cascade.specs.declared.told.Brought.{Brought}
 use Rattle.afdx_cascade.proofs.MoreLemmas.{at-same}
 use Rattle.afdx_config.specs.Switches.{NamedRows}
 use Rattle.afdx_input_sources.specs.Engine.{Item}
@@ -19,13 +18,14 @@ use Rattle.afdx_input_lines.specs.declared.frame_line.Heading.{Heading}
 use Rattle.afdx_input_lines.specs.declared.watched.Watched.{Watched}
 use Rattle.afdx_network.specs.Events.{admission_after, arrivals_in}
 use Rattle.afdx_network.specs.Order.{IsAmong}
+use Rattle.afdx_switch.specs.declared.verdict.Verdict.{Verdict}
 use Rattle.afdx_replay.specs.cascading.Early.{HearsEarly}
 use Rattle.afdx_replay.specs.cascading.Items.{TellsItems}
 use Rattle.afdx_replay.specs.cascading.Ran.{HearsSome, WritesSome}
 use Rattle.afdx_replay.specs.cascading.Sited.{IsAtPlace, line_of, lines_in}
 use Rattle.afdx_replay.specs.cascading.Text.{event_lines}
 use Rattle.afdx_replay.specs.cascading.Told.{AreFirst, AreTold, EndsAtLine, IsFor, SystemsAre, TellsOne}
-use Rattle.afdx_replay.specs.cascading.Told.{ToldUntil, latest_line}
+use Rattle.afdx_replay.specs.cascading.Told.{ToldUntil, latest_line, port_of}
 use Rattle.afdx_replay.specs.declared.cascading.run.Cascading.{Cascading}
 use Rattle.afdx_replay.specs.declared.cascading.teller.Teller.{Teller}
 use Rattle.afdx_replay.proofs.CascadePromisedLemmas.{below-time}
@@ -57,15 +57,18 @@ lines-few past few = let same = length-map past line_of in omega (arith, same, f
 -- ---- the arrival
 
 module _ {D : Type 0} (contents : D → Option (List ℕ)) (s : List NamedRows) (w after : Cascade) (t new : Teller D)
-    (start : Option (Watched D)) (old middle out : Option (List ℕ)) (past : List Line) (x : Line) (b : Brought)
+    (start : Option (Watched D)) (old middle out : Option (List ℕ)) (past : List Line) (x : Line)
+    (v : Verdict) (wait : ℕ)
     (k : ToldUntil contents s w t start old middle past x.arrival.time)
-    (next : ArrivesNext (plan_of s) after k.events x b.verdict)
-    (tells : TellsArrival (plan_of s) k.events b (arriving (plan_of s) k.events x.switch x.arrival)) where
+    (next : ArrivesNext (plan_of s) after k.events x v)
+    (tells : TellsArrival (plan_of s) k.events (port_of x) x.arrival.tag v wait
+    (arriving (plan_of s) k.events x.switch x.arrival)) where
   abbrev event : SwitchEvent
   event = arriving (plan_of s) k.events x.switch x.arrival
 
-  own : TellsArrival (plan_of t.switches.now) k.events b event
-  own = own-arrival contents s w t start old middle past x.arrival.time k.events k.told k.first b event tells
+  own : TellsArrival (plan_of t.switches.now) k.events (port_of x) x.arrival.tag v wait event
+  own = own-arrival contents s w t start old middle past x.arrival.time k.events k.told k.first (port_of x)
+      x.arrival.tag v wait event tells
 
   arrival-first : AreFirst s (x ∷ past) x.arrival.time (event ∷ k.events)
   arrival-first = first-line s past x.arrival.time k.events k.first x (omega arith) next.next
@@ -73,10 +76,10 @@ module _ {D : Type 0} (contents : D → Option (List ℕ)) (s : List NamedRows) 
   -- it is told
   pub arrival-told : IsFor t.switches.now new
       → ((before : List SwitchEvent) (h : SwitchEvent) → SystemsAre t.switches.now t.systems.items before
-      → TellsArrival (plan_of t.switches.now) before b h
+      → TellsArrival (plan_of t.switches.now) before (port_of x) x.arrival.tag v wait h
       → TellsOne t.switches.now new.systems.items t.counts new.counts middle out before h)
       → ((before : List SwitchEvent) (h : SwitchEvent) (start : Option (Watched D))
-      → TellsArrival (plan_of t.switches.now) before b h
+      → TellsArrival (plan_of t.switches.now) before (port_of x) x.arrival.tag v wait h
       → HearsEarly contents t.switches.now start t.early before
       → HearsEarly contents t.switches.now start new.early (h ∷ before))
       → AreTold contents s after new start old out (x ∷ past)
@@ -91,7 +94,8 @@ module _ {D : Type 0} (contents : D → Option (List ℕ)) (s : List NamedRows) 
 
   -- a beginning of its lines is written
   pub arrival-begun : (early : Option (Watched D)) → early ≡ t.early
-      → ((before : List SwitchEvent) (h : SwitchEvent) → TellsArrival (plan_of t.switches.now) before b h
+      → ((before : List SwitchEvent) (h : SwitchEvent)
+      → TellsArrival (plan_of t.switches.now) before (port_of x) x.arrival.tag v wait h
       → AppendsFront middle out (event_lines t.switches.now before h))
       → WritesSome s (x ∷ past) old out × HearsSome contents s (x ∷ past) start early
   arrival-begun early same begun =

@@ -15,8 +15,8 @@ use Rattle.afdx_config.specs.declared.switches.FarEnd.{FarEnd}
 use Rattle.afdx_cascade.specs.Plans.{first_tables, plan_of, tables_of}
 use Rattle.afdx_cascade.specs.Runs.{event_at}
 use Rattle.afdx_cascade.specs.SwitchEvents.{End, SwitchEvent, at_switch}
-use Rattle.afdx_cascade.specs.Turning.{IsSent, end_of}
-use Rattle.afdx_cascade.specs.declared.told.Sent.{Sent}
+use Rattle.afdx_cascade.specs.Turning.{IsCarried, end_of}
+use Rattle.afdx_cascade.specs.declared.told.SitedPort.{SitedPort}
 use Rattle.afdx_cascade.proofs.MoreLemmas.{at-same, at-other}
 use Rattle.afdx_end_systems.specs.Handovers.{HandedOver, came_to}
 use Rattle.afdx_end_systems.specs.StandsFor.{IsAt, system_in}
@@ -269,17 +269,19 @@ module _ (s : List NamedRows) (all : List Systems) (k : ℕ) (before : List Swit
   begun-departure a b d h =
       subst (λ n. AppendsFront a b (lines_at n (tables_of s k) (at_switch k before) (Left d))) named h
 
-  module _ (x : Sent) (d : Departure) (is : IsSent (plan_of s) k x d) where
+  module _ (at : SitedPort) (time tag : ℕ) (d : Departure) (here : at.switch ≡ k)
+      (is : IsCarried (plan_of s) at time tag d) where
     unheard : listener_at (tables_of s k) d.port ≡ None
-    unheard = cable-unheard s k d.port is.cable.0 is.cable.1
+    unheard = subst (λ j. listener_at (tables_of s j) d.port ≡ None) here
+        (cable-unheard s at.switch d.port is.cable.0 is.cable.1)
 
-    sent-line : departure_line false x.tag x.time (place_text x.side name) x.port
+    carried-line : departure_line false tag time (place_text at.side name) at.port
         ≡ departure_line d.turn.too_old d.turn.entry.item.tag d.turn.end (place_text d.side (switch_name s k)) d.port
-    sent-line =
-        ap (λ n. departure_line false n x.time (place_text x.side name) x.port) is.tag
-        ∙ ap (λ n. departure_line false d.turn.entry.item.tag n (place_text x.side name) x.port) is.time
-        ∙ ap (λ z. departure_line false d.turn.entry.item.tag d.turn.end (place_text z name) x.port) is.side
-        ∙ ap (λ n. departure_line false d.turn.entry.item.tag d.turn.end (place_text d.side n) x.port) named
+    carried-line =
+        ap (λ n. departure_line false n time (place_text at.side name) at.port) is.tag_is
+        ∙ ap (λ n. departure_line false d.turn.entry.item.tag n (place_text at.side name) at.port) is.time_is
+        ∙ ap (λ z. departure_line false d.turn.entry.item.tag d.turn.end (place_text z name) at.port) is.side
+        ∙ ap (λ n. departure_line false d.turn.entry.item.tag d.turn.end (place_text d.side n) at.port) named
         ∙ ap (λ n. departure_line false d.turn.entry.item.tag d.turn.end (place_text d.side (switch_name s k)) n)
         is.port
         ∙ ap (λ b. departure_line b d.turn.entry.item.tag d.turn.end (place_text d.side (switch_name s k)) d.port)
@@ -290,27 +292,27 @@ module _ (s : List NamedRows) (all : List Systems) (k : ℕ) (before : List Swit
         ap (λ b. heard b (tables_of s k) (frames_left (at_switch k before)) (handed_over d)) is.left
         ∙ unheard-line (tables_of s k) (frames_left (at_switch k before)) (handed_over d) unheard
 
-    sent-lines : departure_line false x.tag x.time (place_text x.side name) x.port
+    carried-lines : departure_line false tag time (place_text at.side name) at.port
         ≡ event_lines s before (event_at k (Left d))
-    sent-lines = sent-line ∙ sym (append-nil _) ∙ ap (λ (l : List ℕ). departure_line d.turn.too_old
+    carried-lines = carried-line ∙ sym (append-nil _) ∙ ap (λ (l : List ℕ). departure_line d.turn.too_old
         d.turn.entry.item.tag d.turn.end (place_text d.side (switch_name s k)) d.port ++ l) (sym nothing-heard)
 
     -- a slot is told, whose frame a cable carries
-    pub told-sent : (old counts : Summary) (a b : Known) → SystemsAre s all before
+    pub told-carried : (old counts : Summary) (a b : Known) → SystemsAre s all before
         → counts ≡ with_departure old false false
-        → Appends a b (departure_line false x.tag x.time (place_text x.side name) x.port)
+        → Appends a b (departure_line false tag time (place_text at.side name) at.port)
         → TellsOne s all old counts a b before (event_at k (Left d))
-    told-sent old counts a b are more written = record {
+    told-carried old counts a b are more written = record {
       systems_are = systems-unheard s all k before are d unheard;
       counted = more
           ∙ ap (λ m. with_departure old false m) (sym (unheard-delivers (tables_of s k)
           (frames_left (at_switch k before)) (handed_over d) unheard))
           ∙ ap (λ o. with_departure old o (is_delivered (tables_of s k) (frames_left (at_switch k before))
           (handed_over d))) (sym is.left);
-      written = subst (λ (l : List ℕ). Appends a b l) sent-lines written;
+      written = subst (λ (l : List ℕ). Appends a b l) carried-lines written;
     }
 
-    pub begun-sent : (a b : Known)
-        → AppendsFront a b (departure_line false x.tag x.time (place_text x.side name) x.port)
+    pub begun-carried : (a b : Known)
+        → AppendsFront a b (departure_line false tag time (place_text at.side name) at.port)
         → AppendsFront a b (event_lines s before (event_at k (Left d)))
-    begun-sent a b h = subst (λ (l : List ℕ). AppendsFront a b l) sent-lines h
+    begun-carried a b h = subst (λ (l : List ℕ). AppendsFront a b l) carried-lines h

@@ -7,11 +7,11 @@ use Rattle.afdx_cascade.specs.Cascade.{AreFrom, ArrivesNext, GivesNext, IsUntil,
 use Rattle.afdx_cascade.specs.Plans.{plan_of}
 use Rattle.afdx_cascade.specs.Runs.{Line, Runs, arriving}
 use Rattle.afdx_cascade.specs.SwitchEvents.{Plan, SwitchEvent, came_to}
-use Rattle.afdx_cascade.specs.Turning.{WasEarlyBy}
+use Rattle.afdx_cascade.specs.Turning.{WasEarlyBy, switch_of}
 use Rattle.afdx_cascade.specs.declared.cascade.Cascade.{Cascade}
-use Rattle.afdx_cascade.specs.declared.told.Brought.{Brought}
 use Rattle.afdx_cascade.specs.declared.told.Happened.{Happened}
 use Rattle.afdx_cascade.specs.declared.told.Happened.TheVariants.{Ended, Carried, Came}
+use Rattle.afdx_cascade.specs.declared.told.SitedPort.{SitedPort}
 use Rattle.afdx_cascade.proofs.EarlyLemmas.{early-told, early-none}
 use Rattle.afdx_cascade.proofs.MoreLemmas.{came-same}
 use Rattle.afdx_cascade.proofs.NextLemmas.{until-more}
@@ -38,7 +38,7 @@ use Rattle.afdx_replay.specs.cascading.Ran.{HearsSome, WritesSome}
 use Rattle.afdx_replay.specs.cascading.Sited.{lines_in}
 use Rattle.afdx_replay.specs.cascading.Text.{event_lines}
 use Rattle.afdx_replay.specs.cascading.Told.{AreFirst, AreSteady, HasTold, IsFor, SystemsAre, TellsOne}
-use Rattle.afdx_replay.specs.cascading.Told.{ToldUntil, latest_line, place_of, total}
+use Rattle.afdx_replay.specs.cascading.Told.{ToldUntil, latest_line, port_of, total}
 use Rattle.afdx_replay.specs.declared.cascading.teller.Teller.{Teller}
 use Rattle.afdx_replay.specs.replaying.Replayed.{AreLow}
 use Rattle.afdx_replay.proofs.CascadePartLemmas.{parts-so-far}
@@ -49,8 +49,8 @@ use Rattle.afdx_replay.proofs.CascadeRunLemmas.{total-is}
 -- ---- times
 
 transit-more : (vs : List InTransit) (time at : ℕ) → time ≤ at
-    → AllByRecursion (λ v. (as_given v.departed.departure).end ≤ time) vs
-    → AllByRecursion (λ v. (as_given v.departed.departure).end ≤ at) vs
+    → AllByRecursion (λ v. (as_given v.departure).end ≤ time) vs
+    → AllByRecursion (λ v. (as_given v.departure).end ≤ at) vs
 transit-more [] time at le by = tt
 transit-more (v ∷ vs) time at le by =
     ((let here = by.0 in omega (arith, here, le)), transit-more vs time at le by.1)
@@ -94,30 +94,29 @@ module _ (c : Plan) (new : Cascade) (so_far : List SwitchEvent) (at : ℕ) (x : 
   -- what is told of it
   pub arrived : (k wait : ℕ) → at ≡ k → WasEarlyBy (c.tables at) (came_to at so_far) x wait
       → ArrivesNext c new so_far (line_at k x) v
-      × TellsArrival c so_far
-      (record { switch = at; side = x.side; port = x.port; time = x.time; tag = x.tag; verdict = v; early = wait })
-      (arriving c so_far k x)
-  arrived k wait is early = (
-    subst (λ j. ArrivesNext c new so_far (line_at j x) v) is next,
-    record {
-      arrival = x;
-      is = ap (λ j. arriving c so_far j x) (sym is);
-      side = refl;
-      port = refl;
-      time = refl;
-      tag = refl;
-      verdict = next.tells;
-      early = early;
-    },
-  )
+      × TellsArrival c so_far (port_of (line_at k x)) x.tag v wait (arriving c so_far k x)
+  arrived k wait is early =
+      subst (λ j. ArrivesNext c new so_far (line_at j x) v
+      × TellsArrival c so_far (port_of (line_at j x)) x.tag v wait (arriving c so_far j x)) is (
+        next,
+        record {
+          arrival = x;
+          is = refl;
+          side = refl;
+          port = refl;
+          tag_is = refl;
+          tells = next.tells;
+          was_early = early;
+        },
+      )
 
 -- ---- where an event happened
 
 place-is : (c : Plan) (so_far : List SwitchEvent) (happened : Happened) (h : SwitchEvent)
-    → TellsEvent c so_far happened h → place_of happened ≡ h.switch
-place-is c so_far (Ended k departed) h tells = sym (ap (λ (e : SwitchEvent). e.switch) tells.1)
-place-is c so_far (Carried k sent) h tells = sym (ap (λ (e : SwitchEvent). e.switch) tells.1)
-place-is c so_far (Came b) h tells = sym (ap (λ (e : SwitchEvent). e.switch) tells.is)
+    → TellsEvent c so_far happened h → switch_of happened ≡ h.switch
+place-is c so_far (Ended k departure) h tells = sym (ap (λ (e : SwitchEvent). e.switch) tells.1)
+place-is c so_far (Carried at time tag) h tells = sym (ap (λ (e : SwitchEvent). e.switch) tells.1)
+place-is c so_far (Came at time tag v wait) h tells = sym (ap (λ (e : SwitchEvent). e.switch) tells.0.is)
 
 -- ---- one event more
 
@@ -176,9 +175,10 @@ module _ {D : Type 0} (contents : D → Option (List ℕ)) (s : List NamedRows) 
   own-event happened h tells =
       subst (λ u. TellsEvent (plan_of u) events happened h) (sym has.fits.switches_are) tells
 
-  pub own-arrival : (b : Brought) (h : SwitchEvent) → TellsArrival (plan_of s) events b h
-      → TellsArrival (plan_of t.switches.now) events b h
-  own-arrival b h tells = subst (λ u. TellsArrival (plan_of u) events b h) (sym has.fits.switches_are) tells
+  pub own-arrival : (at : SitedPort) (tag : ℕ) (v : Verdict) (wait : ℕ) (h : SwitchEvent)
+      → TellsArrival (plan_of s) events at tag v wait h → TellsArrival (plan_of t.switches.now) events at tag v wait h
+  own-arrival at tag v wait h tells =
+      subst (λ u. TellsArrival (plan_of u) events at tag v wait h) (sym has.fits.switches_are) tells
 
   pub own-lines : (out : Option (List ℕ)) (h : SwitchEvent)
       → AppendsFront middle out (event_lines t.switches.now events h) → AppendsFront middle out (event_lines s events h)
@@ -186,7 +186,7 @@ module _ {D : Type 0} (contents : D → Option (List ℕ)) (s : List NamedRows) 
       subst (λ u. AppendsFront middle out (event_lines u events h)) has.fits.switches_are front
 
   pub step-within : (after : Cascade) (happened : Happened)
-      (n : GivesNext (plan_of s) after until events happened) → place_of happened < length t.systems.items
+      (n : GivesNext (plan_of s) after until events happened) → switch_of happened < length t.systems.items
   step-within after happened n =
       let is = place-is (plan_of s) events happened n.event n.tells in
       let within = n.stands.inside.0.0 in

@@ -19,8 +19,9 @@ use Rattle.afdx_end_systems.specs.declared.systems.Systems.{Systems}
 use Rattle.afdx_network.specs.Events.{Event, Came, Left, Admission, Departure, arrivals_in}
 use Rattle.afdx_network.specs.Order.{AreEvents, events_of}
 use Rattle.afdx_network.specs.Network as network
-use Rattle.afdx_network.specs.declared.network.Departed.{Departed}
 use Rattle.afdx_network.specs.declared.network.Network.{Network}
+use Rattle.afdx_switch.specs.Departures.{giving_side}
+use Rattle.afdx_switch.specs.declared.switch.Departure.{Departure as HandedOut}
 use Rattle.afdx_switch.specs.declared.verdict.Verdict.{Verdict}
 use Rattle.afdx_network.proofs.FirstLemmas.{are-first, so-far}
 use Rattle.afdx_network.proofs.OrderedLemmas.{one-order, one-order-so-far, begins}
@@ -43,30 +44,30 @@ abbrev pub hand : Side → ℕ → ℕ → ℕ → List ℕ → HandedOver
 hand side port time line bytes = record { side = side; port = port; time = time; line = line; bytes = bytes }
 
 -- what is handed out for a departure
-module _ (name : List ℕ) (value : Departed) (d : Departure) (h : network.Hands value d) where
-  pub line-is : departure_line value.departure.left.too_old value.departure.left.item.tag
-      value.departure.left.end (place_text value.side name) value.departure.port
+module _ (name : List ℕ) (value : HandedOut) (d : Departure) (h : network.Hands value d) where
+  pub line-is : departure_line value.left.too_old value.left.item.tag
+      value.left.end (place_text (giving_side value) name) value.port
       ≡ departure_line d.turn.too_old d.turn.entry.item.tag d.turn.end (place_text d.side name) d.port
   line-is =
-      ap (λ l. departure_line l.too_old l.item.tag l.end (place_text value.side name) value.departure.port) h.left
+      ap (λ l. departure_line l.too_old l.item.tag l.end (place_text (giving_side value) name) value.port) h.left
       ∙ ap (λ s. departure_line d.turn.too_old d.turn.entry.item.tag d.turn.end (place_text s name)
-      value.departure.port) h.side
+      value.port) h.side
       ∙ ap (λ k. departure_line d.turn.too_old d.turn.entry.item.tag d.turn.end (place_text d.side name) k) h.port
 
-module _ (value : Departed) (d : Departure) (h : network.Hands value d) where
-  pub old-is : value.departure.left.too_old ≡ d.turn.too_old
+module _ (value : HandedOut) (d : Departure) (h : network.Hands value d) where
+  pub old-is : value.left.too_old ≡ d.turn.too_old
   old-is = ap (λ l. l.too_old) h.left
 
-  pub handed-is : (port time line : ℕ) (bytes : List ℕ) → port ≡ value.departure.port
-      → time ≡ value.departure.left.end → line ≡ value.departure.left.item.tag
-      → bytes ≡ value.departure.left.item.bytes →
-      hand value.side port time line bytes ≡ handed_over d
-  handed-is port time line bytes p e l b =
+  pub handed-is : (side : Side) (port time line : ℕ) (bytes : List ℕ) → side ≡ giving_side value → port ≡ value.port
+      → time ≡ value.left.end → line ≡ value.left.item.tag
+      → bytes ≡ value.left.item.bytes →
+      hand side port time line bytes ≡ handed_over d
+  handed-is side port time line bytes s p e l b =
       let end : time ≡ d.turn.end = e ∙ ap (λ x. x.end) h.left in
       let tag : line ≡ d.turn.entry.item.tag = l ∙ ap (λ x. x.item.tag) h.left in
       let all : bytes ≡ d.turn.entry.item.bytes = b ∙ ap (λ x. x.item.bytes) h.left in
       let number : port ≡ d.port = p ∙ h.port in
-      ap (λ s. hand s port time line bytes) h.side ∙ ap (λ k. hand d.side k time line bytes) number
+      ap (λ s. hand s port time line bytes) (s ∙ h.side) ∙ ap (λ k. hand d.side k time line bytes) number
       ∙ ap (λ k. hand d.side d.port k line bytes) end
       ∙ ap (λ k. hand d.side d.port d.turn.end k bytes) tag
       ∙ ap (λ k. hand d.side d.port d.turn.end d.turn.entry.item.tag k) all

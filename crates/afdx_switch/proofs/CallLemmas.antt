@@ -2,6 +2,7 @@
 use Rattle.std.proofs.Common.{◌≡◌, ℕ, ◌+◌, ◌≤◌, List, false, true, refl, arith}
 use Rattle.std.specs.Prelude.{Result, Ok, Err, IsErr, Option, Some, None}
 use Rattle.afdx_frame.specs.declared.link.Side.{Side}
+use Rattle.afdx_frame.specs.declared.link.Side.TheVariants.{A}
 use Rattle.afdx_frame.proofs.BuiltLemmas.{built_is_computed}
 use Rattle.afdx_config.specs.Rows.{Rows}
 use Rattle.afdx_police.specs.Arrival.{arrival_with}
@@ -9,6 +10,7 @@ use Rattle.afdx_port.specs.Due.{IsAfter}
 use Rattle.afdx_port.specs.History.{due_at}
 use Rattle.afdx_port.specs.Schedule.{Turn}
 use Rattle.afdx_switch.specs.Calls.{Arrives, Takes}
+use Rattle.afdx_switch.specs.Departures.{giving_side}
 use Rattle.afdx_switch.specs.HeldFrames.{HeldFrame}
 use Rattle.afdx_switch.specs.Switching.{SwitchHistory, StandsFor, IsQuiet, IsNextAt, IsDone}
 use Rattle.afdx_switch.specs.Switching.{Gives, with_arrival, at, frames_held, last_time}
@@ -70,11 +72,12 @@ module _ {E : Type 0} (w new : SwitchState) (tag time port : ℕ) (bytes : List 
 
 module _ (w new : SwitchState) (until : ℕ) where
   -- a turn is given
-  pub given : (d : Departure) →
+  pub given : (d : Departure) → giving_side d ≡ A →
       ((t : Rows) (side : Side) (h : SwitchHistory) → StandsFor t side w h → Gives t side h until d new) →
       frames_held new + 1 ≡ frames_held w → last_time new ≡ until → Takes w new until (Some d)
-  given d gives held clock = record {
+  given d side gives held clock = record {
     given = gives;
+    side = side;
     own = λ t side h vl lawful. given-own (Some d) t side h until vl new lawful;
     in_time = λ t side h run. each-in-time (Some d) t side h until new run;
     none = λ t side h st. tt;
@@ -98,6 +101,7 @@ module _ (w new : SwitchState) (until : ℕ) where
       Takes w new until r
   none-given r is stands no_more all_done gives quiet held clock = rw is (record {
     given = λ t side h st. tt;
+    side = tt;
     own = λ t side h vl lawful. tt;
     in_time = λ t side h run. tt;
     none = stands;

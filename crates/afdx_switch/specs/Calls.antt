@@ -5,6 +5,7 @@ use Rattle.afdx_config.specs.Lawful.{IsLawfulSwitch}
 use Rattle.afdx_config.specs.Rows.{LinkRow, Rows}
 use Rattle.afdx_frame.specs.Ports.{last_port}
 use Rattle.afdx_frame.specs.declared.link.Side.{Side}
+use Rattle.afdx_frame.specs.declared.link.Side.TheVariants.{A}
 use Rattle.afdx_police.specs.Arrival.{arrival_with, names, own}
 use Rattle.afdx_port.specs.Due.{given_at, IsAfter}
 use Rattle.afdx_port.specs.History.{due_at}
@@ -13,6 +14,7 @@ use Rattle.afdx_port.specs.Schedule.{Turn}
 use Rattle.afdx_port.specs.Times.{drain_end}
 use Rattle.afdx_port.specs.declared.left.Due.{Due}
 use Rattle.afdx_switch.specs.Admitted.{IsAdmittedRun, LosesNothing, IsInTime, HaveLeft}
+use Rattle.afdx_switch.specs.Departures.{giving_side}
 use Rattle.afdx_switch.specs.Early.{IsEarlyBy}
 use Rattle.afdx_switch.specs.HeldFrames.{HeldFrame}
 use Rattle.afdx_switch.specs.LinkFrames.{AreFirstEntered}
@@ -95,6 +97,8 @@ pub record Takes (old new : SwitchState) (until : ℕ) (result : Option Departur
   pub given : (t : Rows) (side : Side) (h : SwitchHistory) →
       StandsFor t side old h →
       IfSome result (λ d. Gives t side h until d new)
+  -- a switch by itself is on side A
+  pub side : IfSome result (λ d. giving_side d ≡ A)
   -- what a port gave of a link's frames is what entered there, in order; on admitted tables a turn
   -- is in time
   pub own : (t : Rows) (side : Side) (h : SwitchHistory) (vl : ℕ) →

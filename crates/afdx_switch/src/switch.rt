@@ -10,7 +10,7 @@ use crate::store::Store;
 use crate::switch_state::SwitchState;
 use crate::verdict::Verdict;
 use afdx_config::Tables;
-use afdx_frame::{Checked, GREATEST_FRAME, PORT_COUNT, Seal, fcs};
+use afdx_frame::{Checked, GREATEST_FRAME, PORT_COUNT, Seal, Side, fcs};
 use afdx_port::{Due, Left, TurnOrder};
 use arrayvec::ArrayVec;
 use std::alloc::{AllocError, Global};
@@ -30,6 +30,7 @@ fn append(bytes: &mut ArrayVec<u8, GREATEST_FRAME>, more: &[u8])
 /// A frame whose turn at an output port is over.
 #[derive(Drop)]
 pub struct Departure {
+    pub(crate) side: Side,
     pub(crate) port: u8,
     pub(crate) left: Left<Frame>,
 }
@@ -37,7 +38,23 @@ pub struct Departure {
 impl Departure {
     ghost use Rattle.afdx_frame.specs.Parts.{bytes_of, IsLinkFrame};
     ghost use Rattle.afdx_frame.specs.Sealing.{is_sealed};
-    ghost use Rattle.afdx_switch.specs.Departures.{as_given, giving_port};
+    ghost use Rattle.afdx_switch.specs.Departures.{as_given, giving_port, giving_side, on_side};
+
+    /// The same departure, of the switch of this side.
+    #[inline(always)]
+    pub fn on(self, side: Side) -> Departure
+        ensures { result ≡ on_side side self }
+    {
+        let Departure { port, left, .. } = self;
+        Departure { side, port, left }
+    }
+
+    /// The side of its switch. A switch by itself is on side A; those of a network say theirs.
+    pub fn side(&self) -> Side
+        ensures { result ≡ giving_side self.now }
+    {
+        self.side
+    }
 
     /// When its slot ended, in ns. For a frame that was dropped as too old, the moment of its turn.
     pub fn time(&self) -> u64

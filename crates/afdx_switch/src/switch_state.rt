@@ -22,7 +22,7 @@ use crate::ports::PortSet;
 use crate::store::Store;
 use crate::switch::Departure;
 use crate::verdict::Verdict;
-use afdx_frame::{Checked, MacView, Priority, VlId, port_at};
+use afdx_frame::{Checked, MacView, Priority, Side, VlId, port_at};
 use afdx_police::Reason;
 use afdx_port::{Due, Port, Serving, TurnOrder};
 use std::alloc::AllocError;
@@ -323,6 +323,7 @@ impl SwitchState {
         self.serving.renew(place, port);
         self.first = self.serving.first::<Frame>();
         Some(Departure {
+            side: Side::A,
             port: place as u8 + 1,
             left,
         })

@@ -12,25 +12,18 @@ use Rattle.afdx_cascade.specs.Runs.{Line, Runs, arriving}
 use Rattle.afdx_cascade.specs.Scan.{switches_most}
 use Rattle.afdx_cascade.specs.SwitchEvents.{SwitchEvent, HaveBroughtAll, at_switch}
 use Rattle.afdx_cascade.specs.declared.cascade.Cascade.{Cascade}
-use Rattle.afdx_cascade.specs.declared.told.Brought.{Brought}
-use Rattle.afdx_cascade.specs.declared.told.Happened.{Happened}
-use Rattle.afdx_cascade.specs.declared.told.Happened.TheVariants.{Ended, Carried, Came}
+use Rattle.afdx_cascade.specs.declared.told.SitedPort.{SitedPort}
 use Rattle.afdx_command_tables.specs.declared.summary.Summary.{Summary}
 use Rattle.afdx_config.specs.Switches.{NamedRows}
 use Rattle.afdx_end_systems.specs.StandsFor as systems
 use Rattle.afdx_end_systems.specs.declared.systems.Systems.{Systems}
 use Rattle.afdx_input_lines.specs.declared.watched.Watched.{Watched}
+use Rattle.afdx_switch.specs.declared.verdict.Verdict.{Verdict}
 use Rattle.afdx_replay.specs.cascading.Early.{HearsEarly}
 use Rattle.afdx_replay.specs.cascading.Text.{cascade_text, cascade_counts, event_lines}
 use Rattle.afdx_replay.specs.declared.cascading.teller.Teller.{Teller}
 use Rattle.afdx_replay.specs.replaying.Replayed.{Known}
 use Rattle.afdx_replay.specs.replaying.Text.{frames_left, with_event}
-
--- the switch at which it happened
-abbrev pub place_of : Happened → ℕ
-place_of (Ended k departed) = k
-place_of (Carried k sent) = k
-place_of (Came b) = b.switch
 
 -- of each accepted frame few copies are lost, and no more messages come than frames left
 pub record AreSteady (counts : Summary) : Type 0 where
@@ -46,6 +39,11 @@ pub record IsFor {D : Type 0} (switches : List NamedRows) (t : Teller D) : Type 
   pub switches_are : t.switches.now ≡ switches
   pub systems_are : length t.systems.items ≡ length switches
   pub few : length switches ≤ switches_most
+
+-- the port at which the frame of a line arrives
+abbrev pub port_of : Line → SitedPort
+port_of line =
+    record { switch = line.switch; side = line.arrival.side; port = line.arrival.port }
 
 module _ (switches : List NamedRows) where
   -- the systems of each switch are after the frames that left it
@@ -77,11 +75,12 @@ module _ (switches : List NamedRows) where
       (before : List SwitchEvent)
       × (events ≡ arriving (plan_of switches) before x.switch x.arrival ∷ before)
 
-  -- the frame of a line arrives next, after these events, and that is what is brought
-  abbrev pub BringsLine : Cascade → (before : List SwitchEvent) → Line → Brought → Type 0
-  BringsLine w before line b =
-      cascade.ArrivesNext (plan_of switches) w before line b.verdict
-      × TellsArrival (plan_of switches) before b
+  -- the frame of a line arrives next, after these events, and that is told of it: what became of
+  -- it, and by how much it came too early
+  abbrev pub BringsLine : Cascade → (before : List SwitchEvent) → Line → Verdict × ℕ → Type 0
+  BringsLine w before line told =
+      cascade.ArrivesNext (plan_of switches) w before line told.0
+      × TellsArrival (plan_of switches) before (port_of line) line.arrival.tag told.0 told.1
       (arriving (plan_of switches) before line.switch line.arrival)
 
 -- the time of the newest line, or 0

@@ -18,10 +18,11 @@ ghost use Rattle.afdx_replay.specs.cascading.Told.{AreFirst, AreInTime, AreStead
 use crate::cascading::teller::Teller;
 use crate::early::is_over_rate;
 use crate::replaying::lines::reason_of;
-use afdx_cascade::{Brought, Cascade};
+use afdx_cascade::{Cascade, SitedPort};
 use afdx_config::Switches;
 use afdx_input_lines::{Heading, RunFault};
 use afdx_input_sources::Machine;
+use afdx_switch::Verdict;
 use afdx_text::Sink;
 use std::alloc::{AllocError, Global};
 use std::io::Write;
@@ -85,8 +86,14 @@ impl<'a, D: Write> Cascading<'a, D> {
         Ok(())
     }
 
-    /// A frame of the list arrives, before which all that happens is told. What became of it.
-    fn arrive(&mut self, n: u64, heading: &Heading, message: &[u8]) -> Result<Brought, AllocError>
+    /// A frame of the list arrives, before which all that happens is told. What became of it, and
+    /// by how many ns it came too early, if it was dropped for its link's rate, else 0.
+    fn arrive(
+        &mut self,
+        n: u64,
+        heading: &Heading,
+        message: &[u8],
+    ) -> Result<(Verdict, u64), AllocError>
         requires within { heading.now.switch < cascade.switch_count self.old.cascade }
         requires limit { heading.now.time ≤ latest_listed }
         requires known { IsSealedAs heading.now.seal message.now }
@@ -96,7 +103,6 @@ impl<'a, D: Write> Cascading<'a, D> {
             × cascade.StandsFor (plan_of s) self.old.cascade so_far
             × ((plan_of s).far_end heading.now.switch heading.now.port ≡ None) }
         ensures teller { self.new.teller ≡ self.old.teller }
-        ensures place { IfOk result (λ b. b.switch ≡ heading.now.switch) }
         ensures next { (s : List NamedRows) (so_far : List SwitchEvent) →
             cascade.StandsFor (plan_of s) self.old.cascade so_far →
             (plan_of s).far_end heading.now.switch heading.now.port ≡ None →
@@ -113,15 +119,7 @@ impl<'a, D: Write> Cascading<'a, D> {
         } else {
             0
         };
-        Ok(Brought {
-            switch,
-            side,
-            port,
-            time,
-            tag: n,
-            verdict,
-            early,
-        })
+        Ok((verdict, early))
     }
 }
 
@@ -148,7 +146,13 @@ impl<D: Write> Machine<Heading> for Cascading<'_, D> {
     ) -> Result<(), RunFault> {
         self.tell_events(heading.time, output)?;
         let arrived = self.arrive(n, heading, message)?;
-        self.teller.tell_arrival(&arrived, output)
+        let (verdict, early) = arrived;
+        let at = SitedPort {
+            switch: heading.switch as usize,
+            side: heading.side,
+            port: heading.port,
+        };
+        self.teller.tell_arrival(at, n, verdict, early, output)
     }
 
     fn end<O: Sink>(&mut self, output: &mut O) -> Result<(), RunFault> {

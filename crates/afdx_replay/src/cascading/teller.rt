@@ -6,12 +6,12 @@ ghost use Rattle.afdx_cascade.specs.Cascade.{TellsArrival, TellsEvent};
 ghost use Rattle.afdx_cascade.specs.Plans.{plan_of};
 ghost use Rattle.afdx_cascade.specs.Runs.{event_at};
 ghost use Rattle.afdx_cascade.specs.SwitchEvents.{SwitchEvent};
-ghost use Rattle.afdx_cascade.specs.Turning.{IsSent};
+ghost use Rattle.afdx_cascade.specs.Turning.{IsCarried, switch_of};
 ghost use Rattle.afdx_command_tables.specs.Counts.{no_counts};
 ghost use Rattle.afdx_config.specs.Switches.{AreSwitches};
 ghost use Rattle.afdx_input_lines.specs.Calls.{AppendsFront};
 ghost use Rattle.afdx_input_lines.specs.declared.watched.Watched.{Watched as Device};
-ghost use Rattle.afdx_network.specs.Events.{Departure, Left};
+ghost use Rattle.afdx_network.specs.Events.{Departure as Turned, Left};
 ghost use Rattle.afdx_network.specs.Network as network;
 ghost use Rattle.std.specs.Io.KnownBytes.{Appends};
 ghost use Rattle.afdx_text.specs.Sinks.{SinkKept};
@@ -20,16 +20,16 @@ ghost use Rattle.afdx_replay.specs.cascading.Early.{HearsEarly};
 ghost use Rattle.afdx_replay.specs.cascading.Text.{event_lines};
 ghost use Rattle.afdx_input_runs.specs.ListText.{switch_name};
 ghost use Rattle.afdx_replay.specs.cascading.Told as spec;
-ghost use Rattle.afdx_replay.specs.cascading.Told.{AreSteady, SystemsAre, TellsOne, place_of};
+ghost use Rattle.afdx_replay.specs.cascading.Told.{AreSteady, SystemsAre, TellsOne};
 
 use crate::early::{is_over_rate, tell_early};
 use crate::replaying::telling::{tell_departure, tell_verdict};
-use afdx_cascade::{Brought, Happened, Sent};
+use afdx_cascade::{Happened, SitedPort};
 use afdx_command_tables::{NO_COUNTS, Summary};
 use afdx_config::{SwitchId, Switches};
 use afdx_end_systems::Systems;
 use afdx_input_lines::{RunFault, Watched};
-use afdx_network::Departed;
+use afdx_switch::{Departure, Verdict};
 use afdx_text::{OutLine, Sink, Site};
 use std::alloc::{AllocError, Global};
 use std::io::Write;
@@ -80,11 +80,12 @@ impl<'a, D: Write> Teller<'a, D> {
     /// Tells a frame that left a switch and that a cable carries now: nothing hears it there.
     fn tell_carried<O: Sink>(
         &mut self,
-        switch: usize,
-        sent: Sent,
+        at: SitedPort,
+        time: u64,
+        tag: u64,
         output: &mut O,
     ) -> Result<(), RunFault>
-        requires within { switch < length self.old.systems.items }
+        requires within { at.switch < length self.old.systems.items }
         requires fits { IsFor self.old.switches.now self.old }
         requires low { AreLow self.old.counts }
         requires sound { O.failed output.old ≡ false }
@@ -92,26 +93,26 @@ impl<'a, D: Write> Teller<'a, D> {
         ensures fits { OnOk result (IsFor self.old.switches.now self.new) }
         ensures steady { AreSteady self.old.counts → OnOk result (AreSteady self.new.counts) }
         ensures early { self.new.early ≡ self.old.early }
-        ensures told { (before : List SwitchEvent) (d : Departure) →
+        ensures told { (before : List SwitchEvent) (d : Turned) →
             SystemsAre self.old.switches.now self.old.systems.items before →
-            IsSent (plan_of self.old.switches.now) switch sent d →
+            IsCarried (plan_of self.old.switches.now) at time tag d →
             OnOk result (TellsOne self.old.switches.now self.new.systems.items
             self.old.counts self.new.counts (O.written output.old) (O.written output.new)
-            before (event_at switch (Left d))) }
-        ensures begun { (before : List SwitchEvent) (d : Departure) →
-            IsSent (plan_of self.old.switches.now) switch sent d →
+            before (event_at at.switch (Left d))) }
+        ensures begun { (before : List SwitchEvent) (d : Turned) →
+            IsCarried (plan_of self.old.switches.now) at time tag d →
             OnErr result (AppendsFront (O.written output.old) (O.written output.new)
-            (event_lines self.old.switches.now before (event_at switch (Left d)))) }
+            (event_lines self.old.switches.now before (event_at at.switch (Left d)))) }
     {
-        let name = self.switches.name(SwitchId(switch as u8));
+        let name = self.switches.name(SwitchId(at.switch as u8));
         let line = OutLine::Left {
-            n: sent.tag,
-            time: sent.time,
+            n: tag,
+            time,
             site: Site {
-                side: sent.side,
+                side: at.side,
                 switch: name,
             },
-            port: sent.port,
+            port: at.port,
             too_old: false,
         };
         output.put(&line)?;
@@ -123,7 +124,7 @@ impl<'a, D: Write> Teller<'a, D> {
     fn tell_ended<O: Sink>(
         &mut self,
         switch: usize,
-        departed: Departed,
+        departure: Departure,
         output: &mut O,
     ) -> Result<(), RunFault>
         requires within { switch < length self.old.systems.items }
@@ -134,32 +135,36 @@ impl<'a, D: Write> Teller<'a, D> {
         ensures fits { OnOk result (IsFor self.old.switches.now self.new) }
         ensures steady { AreSteady self.old.counts → OnOk result (AreSteady self.new.counts) }
         ensures early { self.new.early ≡ self.old.early }
-        ensures told { (before : List SwitchEvent) (d : Departure) →
+        ensures told { (before : List SwitchEvent) (d : Turned) →
             SystemsAre self.old.switches.now self.old.systems.items before →
-            network.Hands departed d →
+            network.Hands departure d →
             OnOk result (TellsOne self.old.switches.now self.new.systems.items
             self.old.counts self.new.counts (O.written output.old) (O.written output.new)
             before (event_at switch (Left d))) }
-        ensures begun { (before : List SwitchEvent) (d : Departure) →
+        ensures begun { (before : List SwitchEvent) (d : Turned) →
             SystemsAre self.old.switches.now self.old.systems.items before →
-            network.Hands departed d →
+            network.Hands departure d →
             OnErr result (AppendsFront (O.written output.old) (O.written output.new)
             (event_lines self.old.switches.now before (event_at switch (Left d)))) }
     {
         let name = self.switches.name(SwitchId(switch as u8));
         let systems = &mut self.systems[switch];
         let counts = &mut self.counts;
-        tell_departure::<Teller<'a, D>, O>(systems, counts, name, &departed, output)
+        tell_departure::<Teller<'a, D>, O>(systems, counts, name, &departure, output)
     }
 
-    /// Tells a frame that came to a switch, of the list or over a cable.
+    /// Tells a frame that came to this port of a switch, of the list or over a cable, what became
+    /// of it, and by how much it came too early, if it was dropped for its link's rate.
     #[inline(always)]
     pub(crate) fn tell_arrival<O: Sink>(
         &mut self,
-        brought: &Brought,
+        at: SitedPort,
+        tag: u64,
+        verdict: Verdict,
+        early: u64,
         output: &mut O,
     ) -> Result<(), RunFault>
-        requires within { brought.now.switch < length self.old.systems.items }
+        requires within { at.switch < length self.old.systems.items }
         requires fits { IsFor self.old.switches.now self.old }
         requires low { AreLow self.old.counts }
         requires sound { O.failed output.old ≡ false }
@@ -168,30 +173,29 @@ impl<'a, D: Write> Teller<'a, D> {
         ensures steady { AreSteady self.old.counts → OnOk result (AreSteady self.new.counts) }
         ensures told { (before : List SwitchEvent) (h : SwitchEvent) →
             SystemsAre self.old.switches.now self.old.systems.items before →
-            TellsArrival (plan_of self.old.switches.now) before brought.now h →
+            TellsArrival (plan_of self.old.switches.now) before at tag verdict early h →
             OnOk result (TellsOne self.old.switches.now self.new.systems.items
             self.old.counts self.new.counts (O.written output.old) (O.written output.new)
             before h) }
         ensures heard { (before : List SwitchEvent) (h : SwitchEvent) (start : Option (Device D)) →
-            TellsArrival (plan_of self.old.switches.now) before brought.now h →
+            TellsArrival (plan_of self.old.switches.now) before at tag verdict early h →
             HearsEarly D.contents self.old.switches.now start self.old.early before →
             OnOk result
             (HearsEarly D.contents self.old.switches.now start self.new.early (h ∷ before)) }
         ensures kept { OnErr result (self.new.early ≡ self.old.early) }
         ensures begun { (before : List SwitchEvent) (h : SwitchEvent) →
-            TellsArrival (plan_of self.old.switches.now) before brought.now h →
+            TellsArrival (plan_of self.old.switches.now) before at tag verdict early h →
             OnErr result (AppendsFront (O.written output.old) (O.written output.new)
             (event_lines self.old.switches.now before h)) }
     {
         let site = Site {
-            side: brought.side,
-            switch: self.switches.name(SwitchId(brought.switch as u8)),
+            side: at.side,
+            switch: self.switches.name(SwitchId(at.switch as u8)),
         };
-        let n = brought.tag;
-        let reason = tell_verdict(&mut self.counts, n, site, &brought.verdict, output)?;
+        let reason = tell_verdict(&mut self.counts, tag, site, &verdict, output)?;
         if let Some(drops) = &mut self.early {
             if is_over_rate(reason) {
-                tell_early(drops, n, Some(site), brought.early);
+                tell_early(drops, tag, Some(site), early);
             }
         }
         Ok(())
@@ -203,7 +207,7 @@ impl<'a, D: Write> Teller<'a, D> {
         happened: Happened,
         output: &mut O,
     ) -> Result<(), RunFault>
-        requires within { place_of happened < length self.old.systems.items }
+        requires within { switch_of happened < length self.old.systems.items }
         requires fits { IsFor self.old.switches.now self.old }
         requires low { AreLow self.old.counts }
         requires sound { O.failed output.old ≡ false }
@@ -229,9 +233,15 @@ impl<'a, D: Write> Teller<'a, D> {
             (event_lines self.old.switches.now before h)) }
     {
         match happened {
-            Happened::Ended(switch, departed) => self.tell_ended(switch, departed, output),
-            Happened::Carried(switch, sent) => self.tell_carried(switch, sent, output),
-            Happened::Came(brought) => self.tell_arrival(&brought, output),
+            Happened::Ended { switch, departure } => self.tell_ended(switch, departure, output),
+            Happened::Carried { at, time, tag } => self.tell_carried(at, time, tag, output),
+            Happened::Came {
+                at,
+                tag,
+                verdict,
+                early,
+                ..
+            } => self.tell_arrival(at, tag, verdict, early, output),
         }
     }
 }

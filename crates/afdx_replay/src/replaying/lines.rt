@@ -10,7 +10,7 @@ ghost use Rattle.afdx_end_systems.specs.Handovers.{HandedOver, handed_over};
 ghost use Rattle.afdx_end_systems.specs.Receptions.{reception_line, is_delivered};
 ghost use Rattle.afdx_end_systems.specs.StandsFor.{StandsFor};
 ghost use Rattle.afdx_network.specs.Network.{reason_in, ports_in, lost_in};
-ghost use Rattle.afdx_switch.specs.Departures.{as_given, giving_port};
+ghost use Rattle.afdx_switch.specs.Departures.{as_given, giving_port, giving_side};
 ghost use Rattle.afdx_replay.specs.policing.Text.{verdict_line};
 ghost use Rattle.afdx_replay.specs.replaying.Text.{loss_lines, departure_line, has_message};
 ghost use Rattle.afdx_text.specs.OutLines.{place_text, site_text};
@@ -18,10 +18,9 @@ ghost use Rattle.afdx_text.specs.OutLines.{place_text, site_text};
 use afdx_end_systems::{Handover, Systems};
 use afdx_frame::LAST_PORT;
 use afdx_input_lines::RunFault;
-use afdx_network::Departed;
 use afdx_police::Reason;
 use afdx_receive::Reception;
-use afdx_switch::{PortSet, Verdict};
+use afdx_switch::{Departure, PortSet, Verdict};
 use afdx_text::{OutLine, Sink, Site};
 
 /// Why the frame was dropped, if it was.
@@ -98,28 +97,28 @@ pub(crate) fn put_admission<O: Sink>(
 pub(crate) fn put_departure<O: Sink>(
     output: &mut O,
     switch: &str,
-    departed: &Departed,
+    departure: &Departure,
 ) -> Result<(), RunFault>
     requires sound { O.failed output.old ≡ false }
     ensures sink { SinkKept O.failed O.settings output.old output.new result }
-    ensures line { let left = as_given departed.now.departure in
+    ensures line { let left = as_given departure.now in
         OnOk result (Appends (O.written output.old) (O.written output.new)
         (departure_line left.too_old left.item.tag left.end
-        (place_text departed.now.side switch.now) (giving_port departed.now.departure))) }
-    ensures front { let left = as_given departed.now.departure in
+        (place_text (giving_side departure.now) switch.now) (giving_port departure.now))) }
+    ensures front { let left = as_given departure.now in
         OnErr result (AppendsFront (O.written output.old) (O.written output.new)
         (departure_line left.too_old left.item.tag left.end
-        (place_text departed.now.side switch.now) (giving_port departed.now.departure))) }
+        (place_text (giving_side departure.now) switch.now) (giving_port departure.now))) }
 {
     let line = OutLine::Left {
-        n: departed.departure.tag(),
-        time: departed.departure.time(),
+        n: departure.tag(),
+        time: departure.time(),
         site: Site {
-            side: departed.side,
+            side: departure.side(),
             switch,
         },
-        port: departed.departure.port(),
-        too_old: departed.departure.too_old(),
+        port: departure.port(),
+        too_old: departure.too_old(),
     };
     output.put(&line)
 }

@@ -6,7 +6,7 @@ ghost use Rattle.afdx_frame.specs.Ports.{last_port};
 ghost use Rattle.afdx_config.specs.Rows.{Rows};
 ghost use Rattle.afdx_input_lines.specs.Calls.{AppendsFront};
 ghost use Rattle.afdx_end_systems.specs.StandsFor as hearing;
-ghost use Rattle.afdx_network.specs.Events.{Event, Departure, Left};
+ghost use Rattle.afdx_network.specs.Events.{Event, Departure as Turned, Left};
 ghost use Rattle.afdx_network.specs.Network as network;
 ghost use Rattle.afdx_network.specs.Network.{reason_in, lost_in};
 ghost use Rattle.afdx_text.specs.OutLines.{site_text, verdict_line};
@@ -19,9 +19,8 @@ use crate::replaying::lines::{Heard, hear, put_admission, put_departure, reason_
 use afdx_command_tables::Summary;
 use afdx_end_systems::{Handover, Systems};
 use afdx_input_lines::RunFault;
-use afdx_network::Departed;
 use afdx_police::Reason;
-use afdx_switch::Verdict;
+use afdx_switch::{Departure, Verdict};
 use afdx_text::{Sink, Site};
 
 /// Counts an arrival, and the copies that it lost.
@@ -76,7 +75,7 @@ pub(crate) fn tell_departure<M, O: Sink>(
     systems: &mut Systems,
     counts: &mut Summary,
     switch: &str,
-    departed: &Departed,
+    departure: &Departure,
     output: &mut O,
 ) -> Result<(), RunFault>
     requires low { AreLow counts.old }
@@ -86,23 +85,22 @@ pub(crate) fn tell_departure<M, O: Sink>(
         HasRoom counts.old (held + 1) n → OnOk result (HasRoom counts.new held n) }
     ensures accepted { OnOk result (counts.new.accepted ≡ counts.old.accepted) }
     ensures lost { OnOk result (counts.new.lost ≡ counts.old.lost) }
-    ensures told { (t : Rows) (before : List Event) (d : Departure) →
-        hearing.StandsFor t systems.old (frames_left before) → network.Hands departed.now d →
+    ensures told { (t : Rows) (before : List Event) (d : Turned) →
+        hearing.StandsFor t systems.old (frames_left before) → network.Hands departure.now d →
         OnOk result (TellsDeparture switch.now t systems.new counts.old counts.new before d
         (O.written output.old) (O.written output.new)) }
-    ensures begun { (t : Rows) (before : List Event) (d : Departure) →
-        hearing.StandsFor t systems.old (frames_left before) → network.Hands departed.now d →
+    ensures begun { (t : Rows) (before : List Event) (d : Turned) →
+        hearing.StandsFor t systems.old (frames_left before) → network.Hands departure.now d →
         OnErr result (AppendsFront (O.written output.old) (O.written output.new)
         (lines_at switch.now t before (Left d))) }
 {
-    put_departure(output, switch, departed)?;
-    let departure = &departed.departure;
+    put_departure(output, switch, departure)?;
     if departure.too_old() {
         counts.too_old += 1;
         return Ok(());
     }
     let handover = Handover {
-        side: departed.side,
+        side: departure.side(),
         port: departure.port(),
         time: departure.time(),
         line: departure.tag(),

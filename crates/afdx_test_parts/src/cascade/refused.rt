@@ -12,8 +12,7 @@ use super::switches_of;
 use afdx_cascade::{Cascade, Happened};
 use afdx_config::{SwitchId, Switches};
 use afdx_frame::{Checked, Side};
-use afdx_network::Departed;
-use afdx_switch::Verdict;
+use afdx_switch::{Departure, Verdict};
 use afdx_test_samples::{all_right, hello, two_switches};
 use std::alloc::{AllocError, Global};
 use std::test::Fail;
@@ -188,9 +187,8 @@ fn comes_in(
 }
 
 /// What is told of a frame that left a port of a switch in time, or was dropped there.
-fn end_told(switch: usize, departed: &Departed) -> Told {
-    let gone = &departed.departure;
-    if gone.too_old() || departed.side == Side::B {
+fn end_told(switch: usize, gone: &Departure) -> Told {
+    if gone.too_old() || gone.side() == Side::B {
         return Told::Other;
     }
     Told::Left(switch, gone.port(), gone.tag(), gone.time())
@@ -199,22 +197,22 @@ fn end_told(switch: usize, departed: &Departed) -> Told {
 /// What is told of an event.
 fn event_told(happened: &Happened) -> Told {
     match happened {
-        Happened::Ended(switch, departed) => end_told(*switch, departed),
-        Happened::Carried(switch, sent) => {
-            if sent.side == Side::B {
+        Happened::Ended { switch, departure } => end_told(*switch, departure),
+        Happened::Carried { at, time, tag } => {
+            if at.side == Side::B {
                 return Told::Other;
             }
-            Told::Left(*switch, sent.port, sent.tag, sent.time)
+            Told::Left(at.switch, at.port, *tag, *time)
         }
-        Happened::Came(brought) => {
-            let (switch, port, tag, time) = (
-                brought.switch,
-                brought.port,
-                brought.tag,
-                brought.time,
-            );
-            if is_forwarded(brought.verdict) && brought.early == 0 {
-                return Told::Accepted(switch, port, tag, time);
+        Happened::Came {
+            at,
+            time,
+            tag,
+            verdict,
+            early,
+        } => {
+            if is_forwarded(*verdict) && *early == 0 {
+                return Told::Accepted(at.switch, at.port, *tag, *time);
             }
             Told::Other
         }

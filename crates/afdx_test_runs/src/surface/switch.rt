@@ -1,6 +1,7 @@
 //! The items of `afdx_switch`.
 
 use afdx_config::Tables;
+use afdx_frame::Side;
 use afdx_police::Reason;
 use afdx_switch::{Departure, PortSet, Switch, Verdict};
 use afdx_test_samples::{base_tables, equal, hello};
@@ -60,6 +61,18 @@ fn frames(rt: HostRuntime) -> Result<(), Fail> {
     let left = left.ok_or("a departure")?;
     equal(is_kept(verdict), true)?;
     equal(parts(&left), (6720, 3, 7, 0, false, 64))
+}
+
+#[test]
+fn sides(rt: HostRuntime) -> Result<(), Fail> {
+    let tables = base_tables(rt.alloc())?;
+    let (_, left) = passed(rt.alloc(), &tables, &hello(0))?;
+    let left = left.ok_or("a departure")?;
+    let alone: Side = left.side();
+    let of_b: Departure = left.on(Side::B);
+    equal(alone, Side::A)?;
+    equal(of_b.side(), Side::B)?;
+    equal(parts(&of_b), (6720, 3, 7, 0, false, 64))
 }
 
 #[test]

@@ -39,13 +39,13 @@ same-frame r port tag time side bytes of-tag of-time on-side of-bytes =
 pub returns-clause-judged : goal.returns-clause-judged
 returns-clause-judged c p at r rest so_far st on-side left =
     let k = c.args.switch in
-    let x : Arrival = arrival_with c.tag.result c.time.result c.args.departed.now.side c.args.port
+    let x : Arrival = arrival_with c.tag.result c.time.result c.side.result c.args.port
     (bytes_of c.frame.result) in
     let y : Arrival = brought r.side c.args.port r.turn in
     let same : x ≡ y =
-    same-frame r c.args.port c.tag.result c.time.result c.args.departed.now.side (bytes_of c.frame.result)
+    same-frame r c.args.port c.tag.result c.time.result c.side.result (bytes_of c.frame.result)
     (c.tag.ensures ∙ ap (λ (l : Left HeldFrame). l.item.tag) left)
-    (c.time.ensures ∙ ap (λ (l : Left HeldFrame). l.end) left) on-side
+    (c.time.ensures ∙ ap (λ (l : Left HeldFrame). l.end) left) (c.side.ensures ∙ on-side)
     (c.frame.ensures.bytes ∙ ap (λ (l : Left HeldFrame). l.item.bytes) left) in
     subst (λ z. OnErr c.arrive.result (shape_fault (p.tables k) z ≡ None)) same
     (c.arrive.ensures.judged (p.tables k) (at_switch k so_far)
@@ -55,13 +55,13 @@ returns-clause-judged c p at r rest so_far st on-side left =
 pub returns-clause-verdict : goal.returns-clause-verdict
 returns-clause-verdict c p at r rest so_far st on-side left =
     let k = c.args.switch in
-    let x : Arrival = arrival_with c.tag.result c.time.result c.args.departed.now.side c.args.port
+    let x : Arrival = arrival_with c.tag.result c.time.result c.side.result c.args.port
     (bytes_of c.frame.result) in
     let y : Arrival = brought r.side c.args.port r.turn in
     let same : x ≡ y =
-    same-frame r c.args.port c.tag.result c.time.result c.args.departed.now.side (bytes_of c.frame.result)
+    same-frame r c.args.port c.tag.result c.time.result c.side.result (bytes_of c.frame.result)
     (c.tag.ensures ∙ ap (λ (l : Left HeldFrame). l.item.tag) left)
-    (c.time.ensures ∙ ap (λ (l : Left HeldFrame). l.end) left) on-side
+    (c.time.ensures ∙ ap (λ (l : Left HeldFrame). l.end) left) (c.side.ensures ∙ on-side)
     (c.frame.ensures.bytes ∙ ap (λ (l : Left HeldFrame). l.item.bytes) left) in
     same-result c.arrive.result (λ z v.
     network.Tells v (admission_after (p.tables k) (came_to k so_far) z)) x y same
@@ -72,13 +72,13 @@ returns-clause-verdict c p at r rest so_far st on-side left =
 pub returns-clause-stands : goal.returns-clause-stands
 returns-clause-stands c p at r rest so_far plan st joined on-side left =
     let k = c.args.switch in
-    let x : Arrival = arrival_with c.tag.result c.time.result c.args.departed.now.side c.args.port
+    let x : Arrival = arrival_with c.tag.result c.time.result c.side.result c.args.port
     (bytes_of c.frame.result) in
     let y : Arrival = brought r.side c.args.port r.turn in
     let same : x ≡ y =
-    same-frame r c.args.port c.tag.result c.time.result c.args.departed.now.side (bytes_of c.frame.result)
+    same-frame r c.args.port c.tag.result c.time.result c.side.result (bytes_of c.frame.result)
     (c.tag.ensures ∙ ap (λ (l : Left HeldFrame). l.item.tag) left)
-    (c.time.ensures ∙ ap (λ (l : Left HeldFrame). l.end) left) on-side
+    (c.time.ensures ∙ ap (λ (l : Left HeldFrame). l.end) left) (c.side.ensures ∙ on-side)
     (c.frame.ensures.bytes ∙ ap (λ (l : Left HeldFrame). l.item.bytes) left) in
     on-ok c.arrive.result
     (network.StandsFor (p.tables k) c.arrive.new.self
@@ -100,7 +100,7 @@ returns-clause-length c = length-set c.args.networks.now c.args.switch c.arrive.
 pub returns-clause-clock : goal.returns-clause-clock
 returns-clause-clock c k n at =
     elim (set-cases c.args.networks.now c.args.switch c.arrive.new.self k n c.requires.within at) [
-      | inl here ↦ subst (λ m. network.IsUntil m (as_given c.args.departed.now.departure).end)
+      | inl here ↦ subst (λ m. network.IsUntil m (as_given c.args.departure.now).end)
           (sym here.1) (subst (λ t.
           network.IsUntil c.arrive.new.self t) c.time.ensures c.arrive.ensures.clock)
       | inr there ↦ c.requires.clock k n there.1
@@ -109,7 +109,7 @@ returns-clause-clock c k n at =
 pub returns-clause-still : goal.returns-clause-still
 returns-clause-still c n at =
     elim (set-cases c.args.networks.now c.args.switch c.arrive.new.self c.args.switch n c.requires.within at) [
-      | inl here ↦ subst (λ m. network.IsQuiet m (as_given c.args.departed.now.departure).end)
+      | inl here ↦ subst (λ m. network.IsQuiet m (as_given c.args.departure.now).end)
           (sym here.1) (subst (λ t.
           network.IsQuiet c.arrive.new.self t) c.time.ensures c.arrive.ensures.quiet)
       | inr there ↦ absurd (there.0 refl)

@@ -1,4 +1,4 @@
-use Rattle.std.proofs.Common.{◌≡◌, List, ◌∷◌, refl, sym, subst}
+use Rattle.std.proofs.Common.{◌≡◌, ◌∙◌, List, ◌∷◌, refl, sym, subst}
 use Rattle.std.specs.Prelude.{None}
 use Rattle.afdx_frame.specs.Parts.{bytes_of}
 use Rattle.afdx_police.specs.Arrival.{Arrival, arrival_with}
@@ -26,12 +26,12 @@ pub returns : goal.returns
 returns c p so_far r stand side left tells =
     let k = c.args.switch in
     let x : Arrival = brought r.side c.args.port r.turn in
-    let gone : Left HeldFrame = as_given c.args.departed.now.departure in
-    let y : Arrival = arrival_with gone.item.tag c.time-time.result c.args.departed.now.side c.args.port
+    let gone : Left HeldFrame = as_given c.args.departure.now in
+    let y : Arrival = arrival_with gone.item.tag c.time-time.result c.side.result c.args.port
     (bytes_of c.frame-frame.result) in
-    let same : y ≡ x = brought-is gone.item.tag c.time-time.result c.args.departed.now.side r.side
+    let same : y ≡ x = brought-is gone.item.tag c.time-time.result c.side.result r.side
     c.args.port (bytes_of c.frame-frame.result) r.turn gone refl c.time-time.ensures c.frame-frame.ensures.bytes
-    side left in
+    (c.side.ensures ∙ side) left in
     let early : shape_fault (p.tables k) x ≡ None
     → IsEarlyBy (p.tables k) (came_to k (arriving p so_far k x ∷ so_far)) x c.early_at.result =
     subst (λ z. shape_fault (p.tables k) z ≡ None

@@ -8,6 +8,7 @@ use Rattle.afdx_cascade.specs.Runs.{arriving}
 use Rattle.afdx_cascade.specs.Standing.{Stands}
 use Rattle.afdx_cascade.specs.Turning.{AreInTransit, IsInTransit}
 use Rattle.afdx_cascade.specs.declared.cable.InTransit.{InTransit}
+use Rattle.afdx_cascade.specs.declared.told.Happened.TheVariants.{Came}
 use Rattle.afdx_cascade.proofs.turning.front_at.Goals as goal
 use Rattle.afdx_cascade.proofs.TurningLemmas.{front-one, on-err, split-transit}
 
@@ -15,16 +16,29 @@ pub returns-clause-arrives : goal.returns-clause-arrives
 returns-clause-arrives c p at r rest so_far plan st are =
     let parts = split-transit p c.args.transit.now.items c.in-Some.front.now r rest are c.in-Some.ensures.lookup in
     record {
+      at = record { switch = c.in-Some.front.now.switch; side = c.side-side.result; port = c.in-Some.front.now.port };
+      verdict = c.in_ok-verdict.verdict;
+      early = c.early_by-early.result;
+      is = ap (λ t. Came (record {
+        switch = c.in-Some.front.now.switch;
+        side = c.side-side.result;
+        port = c.in-Some.front.now.port;
+      }) t c.tag-tag.result c.in_ok-verdict.verdict c.early_by-early.result)
+          (c.time-time.ensures ∙ ap (λ (l : Left HeldFrame). l.end) parts.0.left)
+          ∙ ap (λ t. Came (record {
+            switch = c.in-Some.front.now.switch;
+            side = c.side-side.result;
+            port = c.in-Some.front.now.port;
+          }) r.turn.end t c.in_ok-verdict.verdict c.early_by-early.result)
+          (c.tag-tag.ensures ∙ ap (λ (l : Left HeldFrame). l.item.tag) parts.0.left);
+      side = c.side-side.ensures ∙ parts.0.side;
       to = parts.0.to;
       stands = subst (λ (n : List Network). Stands p n at rest (arriving p so_far c.in-Some.front.now.switch
           (brought r.side c.in-Some.front.now.port r.turn) ∷ so_far)) (sym c.give_back_at.ensures)
           (c.in_ok-verdict.ensures.stands p at r rest so_far plan st parts.0.to parts.0.side parts.0.left);
       in_transit = subst (λ w. AreInTransit p w rest) (sym c.pop_front.ensures.rest) parts.1;
-      side = parts.0.side;
-      time_is = c.time-time.ensures ∙ ap (λ (l : Left HeldFrame). l.end) parts.0.left;
-      tag = c.tag-tag.ensures ∙ ap (λ (l : Left HeldFrame). l.item.tag) parts.0.left;
-      verdict = c.in_ok-verdict.ensures.verdict p at r rest so_far st parts.0.side parts.0.left;
-      early = c.early_by-early.ensures p so_far r
+      tells = c.in_ok-verdict.ensures.verdict p at r rest so_far st parts.0.side parts.0.left;
+      was_early = c.early_by-early.ensures p so_far r
           (c.in_ok-verdict.ensures.stands p at r rest so_far plan st parts.0.to parts.0.side parts.0.left).all
           parts.0.side parts.0.left
           (c.in_ok-verdict.ensures.verdict p at r rest so_far st parts.0.side parts.0.left);

@@ -17,9 +17,9 @@ returns-then-too_old c = record {
   others = c.take_at.ensures.others;
   none = λ n at. tt;
   gives = λ p at ring so_far plan ends st transit.
-      let g = c.in_ok-departed.ensures.gives p at ring so_far plan st in
+      let g = c.in_ok-departure.ensures.gives p at ring so_far plan st in
       turns-ended p c.take_at.new.networks c.args.transit.now.items at ring so_far c.args.switch c.args.until
-      c.in_ok-departed.departed g transit
+      c.in_ok-departure.departure g transit
       (inl (sym (ap (λ (l : Left HeldFrame). l.too_old) g.hands.left) ∙ sym c.too_old.ensures
       ∙ c.if-too_old.true));
 }
@@ -31,9 +31,9 @@ returns-then-time-gt-LATEST_ARRIVAL c = record {
   others = c.take_at.ensures.others;
   none = λ n at. tt;
   gives = λ p at ring so_far plan ends st transit.
-      let g = c.in_ok-departed.ensures.gives p at ring so_far plan st in
+      let g = c.in_ok-departure.ensures.gives p at ring so_far plan st in
       turns-ended p c.take_at.new.networks c.args.transit.now.items at ring so_far c.args.switch c.args.until
-      c.in_ok-departed.departed g transit
+      c.in_ok-departure.departure g transit
       (let t = c.time-time.ensures ∙ ap (λ (l : Left HeldFrame). l.end) g.hands.left in
       let late = c.if-time-gt-LATEST_ARRIVAL.true in inr (inr (omega (arith, t, late))));
 }
@@ -45,11 +45,11 @@ returns-in-None c = record {
   others = c.take_at.ensures.others;
   none = λ n at. tt;
   gives = λ p at ring so_far plan ends st transit.
-      let g = c.in_ok-departed.ensures.gives p at ring so_far plan st in
+      let g = c.in_ok-departure.ensures.gives p at ring so_far plan st in
       let port : c.port-port.result ≡ g.departure.port = c.port-port.ensures ∙ g.hands.port in
       let k = c.args.switch in
       turns-ended p c.take_at.new.networks c.args.transit.now.items at ring so_far c.args.switch c.args.until
-      c.in_ok-departed.departed g transit
+      c.in_ok-departure.departure g transit
       (inr (inl (ends k g.departure.port g.next.port_last
       ∙ ap (λ n. end_of (entry_in (slice_get c.args.ends.now (k * 25 + n)))) (sym port)
       ∙ ap end_of (sym c.far_end.ensures ∙ c.in-None.is))));
@@ -62,7 +62,7 @@ returns-in-Some c = record {
   others = c.take_at.ensures.others;
   none = λ n at. tt;
   gives = λ p at ring so_far plan ends st transit.
-      let g = c.in_ok-departed.ensures.gives p at ring so_far plan st in
+      let g = c.in_ok-departure.ensures.gives p at ring so_far plan st in
       let port : c.port-port.result ≡ g.departure.port = c.port-port.ensures ∙ g.hands.port in
       let k = c.args.switch in
       let left : g.departure.turn.too_old ≡ false = sym (ap (λ (l : Left HeldFrame). l.too_old) g.hands.left)
@@ -72,29 +72,29 @@ returns-in-Some c = record {
       ∙ ap (λ n. end_of (entry_in (slice_get c.args.ends.now (k * 25 + n)))) (sym port)
       ∙ ap end_of (sym c.far_end.ensures ∙ c.in-Some.is) in
       turns-carried p c.take_at.new.networks c.args.transit.now.items at ring so_far c.args.switch c.args.until
-      c.in_ok-departed.departed g transit
+      c.in_ok-departure.departure g transit
       (record {
-        side = c.in_ok-departed.departed.side;
+        switch = c.args.switch;
+        side = c.side-side.result;
         port = c.port-port.result;
-        time =
-            c.time-time.result;
-        tag = c.tag.result;
       })
+      c.time-time.result
+      c.tag-tag.result
       (record {
         switch = c.in-Some.to.switch.0;
         port = c.in-Some.to.port;
         from = c.args.switch;
-        departed =
-            c.in_ok-departed.departed;
+        departure = c.in_ok-departure.departure;
       })
       c.push_back_reserved.new.self.items
+      refl
       (record {
         left = left;
         cable = (end_at c.in-Some.to.switch.0 c.in-Some.to.port, cable);
-        side = g.hands.side;
+        side = c.side-side.ensures ∙ g.hands.side;
         port = port;
-        time = c.time-time.ensures ∙ ap (λ (l : Left HeldFrame). l.end) g.hands.left;
-        tag = c.tag.ensures ∙ ap (λ (l : Left HeldFrame). l.item.tag) g.hands.left;
+        time_is = c.time-time.ensures ∙ ap (λ (l : Left HeldFrame). l.end) g.hands.left;
+        tag_is = c.tag-tag.ensures ∙ ap (λ (l : Left HeldFrame). l.item.tag) g.hands.left;
       })
       refl
       left

@@ -8,7 +8,7 @@ use Rattle.afdx_cascade.specs.Cascade.{IsUnchanged}
 use Rattle.afdx_cascade.specs.Keeping.{Keeps, IsEarly, BringsNext, TurnsNext, IsNothingDue}
 use Rattle.afdx_cascade.specs.Keys.{AreKeys, AreOthersSame}
 use Rattle.afdx_cascade.specs.Scan.{IsFirstFrom}
-use Rattle.afdx_cascade.specs.Turning.{AreEnds, AreInTransit}
+use Rattle.afdx_cascade.specs.Turning.{AreEnds, AreInTransit, switch_of}
 use Rattle.afdx_cascade.specs.declared.cascade.Cascade.{Cascade}
 use Rattle.afdx_cascade.proofs.CascadeLemmas.{some-of, none-of, came-next, over-next, none-next}
 use Rattle.afdx_cascade.proofs.CascadeLemmas.{front-to-come, turn-to-come}
@@ -34,10 +34,11 @@ renew-self-requires c =
     let lent = c.deref_mut.ensures.value in
     let size = c.bring_next.ensures.length ∙ ap length lent in
     let is = with_items_is old.networks ns (size ∙ sym old.networks.ok.0) in
-    let within = some-of c.in_ok-brought.field-0 (λ b. b.switch < length c.deref_mut.result.now)
+    let within = some-of c.in_ok-brought.field-0 (λ b. switch_of b < length c.deref_mut.result.now)
     c.in-Some.brought c.in-Some.is c.in_ok-brought.ensures.within in
     let there = ap length (c.deref.ensures.value ∙ is) ∙ c.bring_next.ensures.length in
-    omega (arith, within, there)
+    let at = c.switch-switch.ensures in
+    omega (arith, within, there, at)
 
 pub returns-in-Some-clause-given : goal.returns-in-Some-clause-given
 returns-in-Some-clause-given c p so_far st =
@@ -60,12 +61,13 @@ returns-in-Some-clause-given c p so_far st =
     b c.in-Some.is
     (c.in_ok-brought.ensures.brings p st.time st.ring so_far
     (subst (λ zs. Keeps p zs st.time st.ring so_far) (sym lent) st.keeps) st.in_transit) in
-    let others = some-of c.in_ok-brought.field-0 (λ z. AreOthersSame z.switch c.deref_mut.result.now ns)
-    b c.in-Some.is c.in_ok-brought.ensures.others in
+    let others = subst (λ k. AreOthersSame k c.deref_mut.result.now ns) (sym c.switch-switch.ensures)
+    (some-of c.in_ok-brought.field-0 (λ z. AreOthersSame (switch_of z) c.deref_mut.result.now ns)
+    b c.in-Some.is c.in_ok-brought.ensures.others) in
     let keys = subst (λ zs. AreKeys zs c.renew-self.new.keys.items) there
     (c.renew-self.ensures.keys old.networks.items st.keys
-    (subst (λ zs. AreOthersSame b.switch old.networks.items zs) (sym (there ∙ is))
-    (subst (λ zs. AreOthersSame b.switch zs ns) lent others))
+    (subst (λ zs. AreOthersSame c.switch-switch.result old.networks.items zs) (sym (there ∙ is))
+    (subst (λ zs. AreOthersSame c.switch-switch.result zs ns) lent others))
     (ap length (there ∙ is) ∙ size)) in
     came-next p so_far old new c.args.until st c.requires.clock refl (ap length is ∙ size) keys
     (c.renew-self.ensures.least st.least) b

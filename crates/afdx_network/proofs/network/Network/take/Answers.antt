@@ -67,7 +67,7 @@ returns-clause-given c t events st =
     let stands = subst (λ (z : SwitchState). switch.StandsFor t side z (calls_on side events (switch.last_time z)))
     (sym is) (stands-on t n events st side) in
     let gives = c.in_ok-departure.ensures.given t side (calls_on side events (switch.last_time w)) stands in
-    gives-at t n events st side c.take.new.self c.args.until c.in_ok-departure.departure
+    rw c.on.ensures (gives-at t n events st side c.take.new.self c.args.until c.in_ok-departure.departure
     c.order.ensures.due c.order-2.ensures.due
     (c.in_ok-side.ensures c.order.ensures.due c.order-2.ensures.due c.order.ensures.is
     c.order-2.ensures.is c.order.ensures.tells.limit c.order-2.ensures.tells.limit) c.requires.clock
@@ -78,4 +78,4 @@ returns-clause-given c t events st =
     (λ port low high. c.order-2.ensures.tells.all_done t B
     (calls_on B events (switch.last_time n.switches.b)) port st.on_b low high)
     (subst (λ (z : SwitchState). switch.Gives t side (calls_on side events (switch.last_time z)) c.args.until
-    c.in_ok-departure.departure c.take.new.self) is gives)
+    c.in_ok-departure.departure c.take.new.self) is gives))

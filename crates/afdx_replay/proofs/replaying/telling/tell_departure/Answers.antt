@@ -22,27 +22,27 @@ returns-in_err-put_departure-clause-begun g c t before d stands is =
     (departure_line d.turn.too_old d.turn.entry.item.tag d.turn.end
     (place_text d.side c.args.switch.now) d.port)
     (heard d.turn.too_old t (frames_left before) (handed_over d))
-    (subst (λ x. AppendsFront a b x) (line-is c.args.switch.now c.args.departed.now d is)
+    (subst (λ x. AppendsFront a b x) (line-is c.args.switch.now c.args.departure.now d is)
     c.in_err-put_departure.ensures.front))
 
 pub returns-then-too_old-clause-told : goal.returns-then-too_old-clause-told
 returns-then-too_old-clause-told g c t before d stands is =
-    let old : d.turn.too_old ≡ true = sym (old-is c.args.departed.now d is) ∙ sym c.too_old.ensures
+    let old : d.turn.too_old ≡ true = sym (old-is c.args.departure.now d is) ∙ sym c.too_old.ensures
     ∙ c.if-too_old.true in
     let a = g.O.Sink.written c.args.output.now in
     let b = g.O.Sink.written c.put_departure.new.output in
     tells-old c.args.switch.now t before d _ _ _ a b old stands refl
-    (subst (λ x. Appends a b x) (line-is c.args.switch.now c.args.departed.now d is
+    (subst (λ x. Appends a b x) (line-is c.args.switch.now c.args.departure.now d is
     ∙ ap (λ b. departure_line b d.turn.entry.item.tag d.turn.end
     (place_text d.side c.args.switch.now) d.port) old)
     c.in_ok-put_departure.ensures.line)
 
 pub returns-in_err-hear-clause-begun : goal.returns-in_err-hear-clause-begun
 returns-in_err-hear-clause-begun g c t before d stands is =
-    let left : d.turn.too_old ≡ false = sym (old-is c.args.departed.now d is)
+    let left : d.turn.too_old ≡ false = sym (old-is c.args.departure.now d is)
     ∙ sym c.too_old.ensures ∙ c.if-too_old.false in
-    let handed = handed-is c.args.departed.now d is c.port.result c.time.result c.tag.result
-    (bytes_of c.frame.result) c.port.ensures c.time.ensures c.tag.ensures c.frame.ensures.bytes in
+    let handed = handed-is c.args.departure.now d is c.side.result c.port.result c.time.result c.tag.result
+    (bytes_of c.frame.result) c.side.ensures c.port.ensures c.time.ensures c.tag.ensures c.frame.ensures.bytes in
     let a = g.O.Sink.written c.args.output.now in
     let m = g.O.Sink.written c.put_departure.new.output in
     let b = g.O.Sink.written c.hear.new.output in
@@ -51,7 +51,7 @@ returns-in_err-hear-clause-begun g c t before d stands is =
     (heard-front t (frames_left before) _ (handed_over d) a m b
     (departure_line false d.turn.entry.item.tag d.turn.end
     (place_text d.side c.args.switch.now) d.port) handed
-    (subst (λ x. Appends a m x) (line-is c.args.switch.now c.args.departed.now d is
+    (subst (λ x. Appends a m x) (line-is c.args.switch.now c.args.departure.now d is
     ∙ ap (λ b. departure_line b d.turn.entry.item.tag d.turn.end
     (place_text d.side c.args.switch.now) d.port) left)
     c.in_ok-put_departure.ensures.line)
@@ -59,10 +59,10 @@ returns-in_err-hear-clause-begun g c t before d stands is =
 
 pub returns-in-Message-clause-told : goal.returns-in-Message-clause-told
 returns-in-Message-clause-told g c t before d stands is =
-    let left : d.turn.too_old ≡ false = sym (old-is c.args.departed.now d is)
+    let left : d.turn.too_old ≡ false = sym (old-is c.args.departure.now d is)
     ∙ sym c.too_old.ensures ∙ c.if-too_old.false in
-    let handed = handed-is c.args.departed.now d is c.port.result c.time.result c.tag.result
-    (bytes_of c.frame.result) c.port.ensures c.time.ensures c.tag.ensures c.frame.ensures.bytes in
+    let handed = handed-is c.args.departure.now d is c.side.result c.port.result c.time.result c.tag.result
+    (bytes_of c.frame.result) c.side.ensures c.port.ensures c.time.ensures c.tag.ensures c.frame.ensures.bytes in
     let a = g.O.Sink.written c.args.output.now in
     let m = g.O.Sink.written c.put_departure.new.output in
     let b = g.O.Sink.written c.hear.new.output in
@@ -75,7 +75,7 @@ returns-in-Message-clause-told g c t before d stands is =
     (heard-whole t (frames_left before) _ (handed_over d) a m b
     (departure_line false d.turn.entry.item.tag d.turn.end
     (place_text d.side c.args.switch.now) d.port) handed
-    (subst (λ x. Appends a m x) (line-is c.args.switch.now c.args.departed.now d is
+    (subst (λ x. Appends a m x) (line-is c.args.switch.now c.args.departure.now d is
     ∙ ap (λ b. departure_line b d.turn.entry.item.tag d.turn.end
     (place_text d.side c.args.switch.now) d.port) left)
     c.in_ok-put_departure.ensures.line)
@@ -83,10 +83,10 @@ returns-in-Message-clause-told g c t before d stands is =
 
 pub returns-in-Nothing-clause-told : goal.returns-in-Nothing-clause-told
 returns-in-Nothing-clause-told g c t before d stands is =
-    let left : d.turn.too_old ≡ false = sym (old-is c.args.departed.now d is)
+    let left : d.turn.too_old ≡ false = sym (old-is c.args.departure.now d is)
     ∙ sym c.too_old.ensures ∙ c.if-too_old.false in
-    let handed = handed-is c.args.departed.now d is c.port.result c.time.result c.tag.result
-    (bytes_of c.frame.result) c.port.ensures c.time.ensures c.tag.ensures c.frame.ensures.bytes in
+    let handed = handed-is c.args.departure.now d is c.side.result c.port.result c.time.result c.tag.result
+    (bytes_of c.frame.result) c.side.ensures c.port.ensures c.time.ensures c.tag.ensures c.frame.ensures.bytes in
     let a = g.O.Sink.written c.args.output.now in
     let m = g.O.Sink.written c.put_departure.new.output in
     let b = g.O.Sink.written c.hear.new.output in
@@ -99,7 +99,7 @@ returns-in-Nothing-clause-told g c t before d stands is =
     (heard-whole t (frames_left before) _ (handed_over d) a m b
     (departure_line false d.turn.entry.item.tag d.turn.end
     (place_text d.side c.args.switch.now) d.port) handed
-    (subst (λ x. Appends a m x) (line-is c.args.switch.now c.args.departed.now d is
+    (subst (λ x. Appends a m x) (line-is c.args.switch.now c.args.departure.now d is
     ∙ ap (λ b. departure_line b d.turn.entry.item.tag d.turn.end
     (place_text d.side c.args.switch.now) d.port) left)
     c.in_ok-put_departure.ensures.line)

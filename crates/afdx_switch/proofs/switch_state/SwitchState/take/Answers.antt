@@ -75,7 +75,7 @@ returns-clause-takes c =
     let new = c.take.new.self in
     let served = c.requires.sound.served in
     let at = slice_get_read w.ports.items _ w.first p refl served.first.below c.index_mut-port.ensures.value in
-    given w _ c.args.until _
+    given w _ c.args.until _ refl
     (λ t side h st. (
     let gives = c.in_ok-left.ensures.given (calls_at t side (w.first + 1) h p.clock) (st.ports w.first p at) in
     record {

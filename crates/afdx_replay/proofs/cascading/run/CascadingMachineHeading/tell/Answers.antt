@@ -96,11 +96,10 @@ tell_arrival-requires g c =
     let told : ToldUntil g.D.Write.contents r.0.0 w t r.0.1 r.1 middle (lines_in r.2) x.head.time =
     subst (λ z. ToldUntil g.D.Write.contents r.0.0 w z r.0.1 r.1 middle (lines_in r.2) x.head.time)
     (sym c.arrive.ensures.teller) k in
-    let place = c.in_ok-arrived.ensures.place in
     let within = r.5.within in
     let size = told.told.fits.systems_are in
     record {
-      within = omega (arith, place, within, size);
+      within = omega (arith, within, size);
       fits = own-fits g.D.Write.contents r.0.0 w t r.0.1 r.1 middle (lines_in r.2) x.head.time told.events told.told
           told.first;
       low = step-low g.D.Write.contents r.0.0 w t r.0.1 r.1 middle (lines_in r.2) x.head.time told.events told.told
@@ -127,8 +126,8 @@ returns-clause-told g c rules start past h follows can =
     let few = follows.in_order.few in
     ok-by c.tell_arrival.result _ (λ v is. record {
       told = arrival-told g.D.Write.contents rules.0 w c.arrive.new.self.cascade t c.tell_arrival.new.self rules.1 start
-          middle (g.O.Sink.written c.tell_arrival.new.output) (lines_in past) (line_of x) c.in_ok-arrived.arrived told
-          next.0 next.1 (ok-of _ is c.tell_arrival.ensures.fits)
+          middle (g.O.Sink.written c.tell_arrival.new.output) (lines_in past) (line_of x) c.in_ok-arrived.arrived.0
+          c.in_ok-arrived.arrived.1 told next.0 next.1 (ok-of _ is c.tell_arrival.ensures.fits)
           (λ es e systems tells. ok-of _ is (c.tell_arrival.ensures.told es e systems tells))
           (λ es e first tells heard. ok-of _ is (c.tell_arrival.ensures.heard es e first tells heard));
       early = follows.in_order.early;
@@ -158,6 +157,6 @@ returns-clause-begins g c rules start past h =
     let next = c.in_ok-arrived.ensures.next rules.0 told.events told.told.switches_are can.free in
     err-by c.tell_arrival.result _ (λ e is. inr
     (arrival-begun g.D.Write.contents rules.0 w c.arrive.new.self.cascade t c.tell_arrival.new.self rules.1 start
-    middle (g.O.Sink.written c.tell_arrival.new.output) (lines_in past) (line_of x) c.in_ok-arrived.arrived told
-    next.0 next.1 c.tell_arrival.new.self.early (err-of _ is c.tell_arrival.ensures.kept)
+    middle (g.O.Sink.written c.tell_arrival.new.output) (lines_in past) (line_of x) c.in_ok-arrived.arrived.0
+    c.in_ok-arrived.arrived.1 told next.0 next.1 c.tell_arrival.new.self.early (err-of _ is c.tell_arrival.ensures.kept)
     (λ es one tells. err-of _ is (c.tell_arrival.ensures.begun es one tells))))

@@ -58,4 +58,19 @@ returns-in-Carried-clause-heard g c before h start tells was =
     let ss = c.args.self.now.switches.now in
     let it = subst (λ v. TellsEvent (plan_of ss) before v h) c.in-Carried.is tells in
     on-ok c.tell_carried.result (rw c.tell_carried.ensures.early
-    (heard-left ss before h c.in-Carried.switch it.0 it.1 g.D.Write.contents start c.args.self.now.early was))
+    (heard-left ss before h c.in-Carried.at.switch it.0 it.1 g.D.Write.contents start c.args.self.now.early was))
+
+pub returns-in-Came-clause-told : goal.returns-in-Came-clause-told
+returns-in-Came-clause-told g c before h are tells =
+    let it = subst (λ v. TellsEvent (plan_of c.args.self.now.switches.now) before v h) c.in-Came.is tells in
+    c.tell_arrival.ensures.told before h are it.0
+
+pub returns-in-Came-clause-begun : goal.returns-in-Came-clause-begun
+returns-in-Came-clause-begun g c before h are tells =
+    let it = subst (λ v. TellsEvent (plan_of c.args.self.now.switches.now) before v h) c.in-Came.is tells in
+    c.tell_arrival.ensures.begun before h it.0
+
+pub returns-in-Came-clause-heard : goal.returns-in-Came-clause-heard
+returns-in-Came-clause-heard g c before h start tells was =
+    let it = subst (λ v. TellsEvent (plan_of c.args.self.now.switches.now) before v h) c.in-Came.is tells in
+    c.tell_arrival.ensures.heard before h start it.0 was
