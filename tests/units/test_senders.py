@@ -3,6 +3,7 @@ what changes nothing."""
 from __future__ import annotations
 
 import os
+import random
 import sys
 import unittest
 
@@ -15,6 +16,8 @@ from cascade import cascade_text  # noqa: E402
 from cascade_run import Places, arrivals_of  # noqa: E402
 from conform import conform  # noqa: E402
 from conform_terms import Options  # noqa: E402
+from sender_made import KINDS_AMISS, amiss, is_right, right, small  # noqa: E402
+from sender_made import small_recording  # noqa: E402
 from sender_rows import SENDER_ROWS, digits, list_of  # noqa: E402
 from sender_source import Way, further_on, step  # noqa: E402
 from senders import Senders, conform_senders, switches_of, ways_of  # noqa: E402
@@ -98,6 +101,31 @@ class Others(unittest.TestCase):
         self.assertEqual([step(n) for n in (0, 1, 254, 255)], [1, 2, 255, 1])
         self.assertEqual(further_on(0), set(range(1, 128)))
         self.assertEqual(further_on(254), {255, *range(1, 127)})
+
+
+class Made(unittest.TestCase):
+    """Recordings that are made at random."""
+
+    def test_a_right_system_is_never_accused(self) -> None:
+        for seed in range(200):
+            made = right(random.Random(seed))
+            found = made.source()
+            self.assertEqual((found.told, found.sent), ([], len(made.frames)), seed)
+
+    def test_one_thing_amiss_has_its_lines(self) -> None:
+        for kind in KINDS_AMISS:
+            for at in (10, 11, 30):
+                words = {told.word for told in amiss(kind, at).source().told}
+                self.assertEqual(words, set((kind.__doc__ or "").split()), kind.__name__)
+
+    def test_nothing_is_found_exactly_of_what_a_right_system_may_send(self) -> None:
+        outcomes = set()
+        for seed in range(600):
+            times, until = small(random.Random(seed))
+            outcome = is_right(times, until)
+            outcomes.add(outcome)
+            self.assertEqual(not small_recording(times, until).source().told, outcome, seed)
+        self.assertEqual(outcomes, {False, True})
 
 
 if __name__ == "__main__":
