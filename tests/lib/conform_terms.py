@@ -17,12 +17,14 @@ BEFORE_FRAME = 8  # bytes of the line: preamble and delimiter
 # the greatest value of each option that has a number
 MOST = {"--slack": MILLION, "--between": 100 * MILLION, "--drift": 1_000, "--inner": MILLION}
 MOST |= {"--asked": MILLION, "--from": LATEST, "--until": LATEST, "--leave-out": 65_535}
+MOST |= {"--apart": 100 * MILLION}
 OTHER = "other"  # of --leave-out: frames whose bytes name no link
-EXERCISED = "--exercised"  # it has no value
+EXERCISED, SENDERS = "--exercised", "--senders"  # they have no value
 
 
 class Options(NamedTuple):
-    """The options: ns and millionths; `start` and `until` are None where they aren't given."""
+    """The options: ns and millionths; `start`, `until` and `apart` are None where they aren't
+    given."""
 
     slack: int = 0
     between: int = 0
@@ -34,6 +36,8 @@ class Options(NamedTuple):
     left_out: frozenset[int | None] = frozenset()
     switch: str | None = None
     is_exercised: bool = False
+    apart: int | None = None
+    has_senders: bool = False
 
     def reach(self) -> int:
         """By how much the times of a line that came and of one that left may be off together."""
@@ -45,12 +49,12 @@ class Options(NamedTuple):
 
 
 def options_of(words: tuple[str, ...]) -> Options | None:
-    """The options of such words, each but the flag with its value behind it; None where a number is
-    out of its range."""
+    """The options of such words, each but the flags with its value behind it; None where a number
+    is out of its range."""
     given: dict[str, int] = {}
     left_out: set[int | None] = set()
     switch = None
-    valued = [word for word in words if word != EXERCISED]
+    valued = [word for word in words if word not in (EXERCISED, SENDERS)]
     for name, value in zip(valued[::2], valued[1::2], strict=True):
         if name == "--switch":
             switch = value
@@ -63,7 +67,7 @@ def options_of(words: tuple[str, ...]) -> Options | None:
         else:
             given[{"--from": "start"}.get(name, name[2:])] = int(value)
     return Options(**given, left_out=frozenset(left_out), switch=switch,
-                   is_exercised=EXERCISED in words)
+                   is_exercised=EXERCISED in words, has_senders=SENDERS in words)
 
 
 class Came(NamedTuple):

@@ -13,6 +13,8 @@ does what the program replays, and where it has `conform` it must answer as is c
 for byte, from files and standard input, with each option that changes nothing. Where its help has
 `--left`, recordings are judged too: those that are spelled out in tests/conform/recorded_rows.py,
 small cases as recorders would write them, and such that are cut, changed or of other options.
+Where it has `--senders`, the systems that sent what came are judged too: rows that are spelled out
+in tests/conform/sender_rows.py, right ones, ones with something amiss, and cases at random.
 N small cases (100 where it isn't given) are tried for each of the seeds S to S + 3 (0 to 3): N of
 25000 tries 100,000 on the program. The long run is of F frames of each side (20,000); R frames are
 recorded to see what memory they take (200,000).
@@ -46,6 +48,7 @@ from recorded_rows import RECORDED_ROWS  # noqa: E402
 from replay_claims import cascades_conform, computed_replay, examples_conform  # noqa: E402
 from replay_claims import replay_of, stored_conform  # noqa: E402
 from rows import ROWS  # noqa: E402
+from sender_claims import sender_cases  # noqa: E402
 from wrong_bodies import wrong_bodies  # noqa: E402
 from wrong_recorded import readings_are_refused, wrong_readings  # noqa: E402
 from wrong_switches import WRONG_SWITCHES  # noqa: E402
@@ -104,6 +107,7 @@ def computed_cases(given: argparse.Namespace) -> list[tuple]:
     return [
         *cases_of(JUDGED, "computed", given),
         *recorded_cases(JUDGED, "computed", given),
+        *sender_cases(JUDGED, "computed", seeds, given.count),
         *((f"refused: {name}", bodies_are_refused, body) for name, body in wrong_bodies()),
         *((f"refused: {name}", readings_are_refused, reads) for name, reads in wrong_readings()),
         *((f"explained exactly where nothing is found, {seed}", are_explained, seed, given.count)
@@ -141,6 +145,9 @@ def program_cases(program: Program, given: argparse.Namespace) -> list[tuple]:
         for seed in range(given.seed, given.seed + SEEDS):
             cases.append((f"recordings made at random, {seed}", recorded_alike, judge, seed,
                           given.count))
+    if program.knows("conform", "--senders"):
+        seeds = range(given.seed, given.seed + SEEDS)
+        cases += sender_cases(judge, who, seeds, given.count)
     cases.append((f"{who}: replays by the program conform", examples_conform, judge, program))
     cases.append((f"{who}: replays by the program, several switches", cascades_conform, judge,
                   replay_of(program), 8, 6))

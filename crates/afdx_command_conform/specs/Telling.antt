@@ -3,11 +3,14 @@ use Rattle.std.specs.Prelude.{ℕ, ◌+◌, Bool, true, false, List, [], ◌∷�
 use Rattle.afdx_text.specs.ConformLines.{conform_text}
 use Rattle.afdx_text.specs.declared.conform_line.ConformLine.{ConformLine}
 use Rattle.afdx_text.specs.declared.conform_line.ConformLine.TheVariants.{Found, Unsure, Judged}
+use Rattle.afdx_text.specs.declared.conform_line.ConformLine.TheVariants.{Sender, Sourceless}
 
--- it says what the switch did wrong
+-- it says what the switch did wrong, or a system as a sender
 abbrev pub is_finding : ConformLine → Bool
 is_finding (Found side port finding) = true
 is_finding (Unsure n side port) = false
+is_finding (Sender side port finding) = true
+is_finding (Sourceless n side port why) = true
 is_finding (Judged conclusion) = false
 
 abbrev pub one_if : Bool → ℕ

@@ -1,5 +1,5 @@
 -- What the counts of a run answer.
-use Rattle.std.specs.Prelude.{ℕ, Bool, ◌&&◌, ◌||◌, nat_eq, nat_lt, if◌then◌else◌}
+use Rattle.std.specs.Prelude.{ℕ, Bool, ◌&&◌, ◌||◌, nat_eq, nat_lt, if◌then◌else◌, None}
 use Rattle.afdx_text.specs.declared.conform_line.Answer.{Answer}
 use Rattle.afdx_text.specs.declared.conform_line.Answer.TheVariants.{Conforms, Deviates, Undecided}
 use Rattle.afdx_text.specs.declared.conform_line.ConformLine.{ConformLine}
@@ -27,6 +27,7 @@ last_line t = Judged (record {
   left_out = t.left_out;
   unseen = t.unseen;
   idle = t.idle;
+  senders = None;
 })
 
 -- the exit status of a run that came to its end

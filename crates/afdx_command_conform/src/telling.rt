@@ -9,12 +9,13 @@ ghost use Rattle.afdx_text.specs.Sinks.{SinkKept};
 use afdx_input_lines::RunFault;
 use afdx_text::{ConformLine, OutLine, Sink};
 
-/// Whether a line says what the switch did wrong.
+/// Whether a line says what the switch did wrong, or a system as a sender.
 fn is_finding(line: &ConformLine) -> bool
     ensures { result ≡ spec.is_finding line.now }
 {
     match line {
         ConformLine::Found { .. } => true,
+        ConformLine::Sender { .. } | ConformLine::Sourceless { .. } => true,
         ConformLine::Unsure { .. } | ConformLine::Judged(_) => false,
     }
 }

@@ -128,6 +128,7 @@ impl Totals {
             left_out: self.left_out,
             unseen: self.unseen,
             idle: self.idle,
+            senders: None,
         })
     }
 

@@ -17,6 +17,12 @@ use Rattle.afdx_receive.specs.declared.reception.DropReason.TheVariants as drop
 use Rattle.afdx_conform.specs.Words.{strange_word, own_words as strange_words}
 use Rattle.afdx_conform.specs.declared.strangeness.Strangeness.{Strangeness}
 use Rattle.afdx_conform.specs.declared.strangeness.Strangeness.TheVariants as strange
+use Rattle.afdx_lawful.specs.declared.finding.Flaw.{Flaw}
+use Rattle.afdx_lawful.specs.declared.finding.Flaw.TheVariants as flaw
+use Rattle.afdx_police.specs.declared.shape.Reason.TheVariants as switch
+use Rattle.afdx_text.specs.SenderWords.{flaw_word, no_source_word}
+use Rattle.afdx_text.specs.declared.sender_words.NoSource.{NoSource}
+use Rattle.afdx_text.specs.declared.sender_words.NoSource.TheVariants as source
 use denote.Enum.Declared.{tag_of}
 
 abbrev fits : List ℕ → Bool
@@ -75,3 +81,23 @@ strange_fits strange.NoArrival = refl
 -- at a switch that was recorded
 pub strange_word_short : (why : Strangeness) → length (strange_word why) ≤ 15
 strange_word_short why = leb-true _ _ (strange_fits why)
+
+flaw_fits : (f : Flaw) → leb (length (flaw_word f)) 15 ≡ true
+unfolding flaw_word
+flaw_fits (flaw.Damaged fault) = mac_fits fault
+flaw_fits flaw.OverLmax = reason_fits switch.OverLmax
+flaw_fits flaw.UnderLmin = reason_fits switch.UnderLmin
+flaw_fits flaw.NotItsAddress = refl
+flaw_fits (flaw.Unread fault) = ip_fits fault
+
+-- of what a system sent
+pub flaw_word_short : (f : Flaw) → length (flaw_word f) ≤ 15
+flaw_word_short f = leb-true _ _ (flaw_fits f)
+
+no_source_fits : (why : NoSource) → leb (length (no_source_word why)) 15 ≡ true
+unfolding no_source_word
+no_source_fits source.UnknownLink = reason_fits switch.UnknownLink
+no_source_fits source.NotItsLink = refl
+
+pub no_source_word_short : (why : NoSource) → length (no_source_word why) ≤ 15
+no_source_word_short why = leb-true _ _ (no_source_fits why)

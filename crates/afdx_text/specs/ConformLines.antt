@@ -1,4 +1,5 @@
--- The lines of `conform`: what is found at a switch that was recorded, and the last line.
+-- The lines of `conform`: what is found at a switch that was recorded, and of the systems that sent
+-- to it, and the last line.
 use Rattle.std.specs.Prelude.{ℕ, List, ◌++◌, codes}
 use Rattle.std.specs.Fmt.{decimal}
 use Rattle.afdx_conform.specs.Words.{strange_word}
@@ -12,15 +13,9 @@ use Rattle.afdx_text.specs.declared.conform_line.Answer.TheVariants.{Conforms, D
 use Rattle.afdx_text.specs.declared.conform_line.Conclusion.{Conclusion}
 use Rattle.afdx_text.specs.declared.conform_line.ConformLine.{ConformLine}
 use Rattle.afdx_text.specs.declared.conform_line.ConformLine.TheVariants.{Found, Unsure, Judged}
-use Rattle.afdx_text.specs.Places.{side_text}
-
--- what is found of line n of a list, at an output port of a side: how each such line begins
-abbrev pub found_text : List ℕ → ℕ → Side → ℕ → List ℕ
-found_text finding n side port =
-    finding ++ decimal n ++ codes " " ++ side_text side ++ codes " " ++ decimal port
-
-abbrev pub count_text : List ℕ → ℕ → List ℕ
-count_text name count = name ++ decimal count
+use Rattle.afdx_text.specs.declared.conform_line.ConformLine.TheVariants.{Sender, Sourceless}
+use Rattle.afdx_text.specs.FoundPieces.{count_text, found_text}
+use Rattle.afdx_text.specs.SenderLines.{no_source_line, sender_line, senders_text}
 
 abbrev pub answer_text : Answer → List ℕ
 answer_text Conforms = codes "conforms"
@@ -46,9 +41,12 @@ judged_line j =
     answer_text j.answer
     ++ count_text (codes " explained ") j.explained ++ count_text (codes " open ") j.waiting
     ++ count_text (codes " uncertain ") j.uncertain ++ count_text (codes " left-out ") j.left_out
-    ++ count_text (codes " unseen ") j.unseen ++ count_text (codes " idle ") j.idle ++ codes "\n"
+    ++ count_text (codes " unseen ") j.unseen ++ count_text (codes " idle ") j.idle
+    ++ senders_text j.senders ++ codes "\n"
 
 abbrev pub conform_text : ConformLine → List ℕ
 conform_text (Found side port finding) = finding_text side port finding
 conform_text (Unsure n side port) = found_text (codes "unsure ") n side port ++ codes "\n"
+conform_text (Sender side port finding) = sender_line side port finding
+conform_text (Sourceless n side port why) = no_source_line n side port why
 conform_text (Judged j) = judged_line j

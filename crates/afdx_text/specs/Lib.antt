@@ -1,4 +1,7 @@
 pub mod Places
+pub mod FoundPieces
+pub mod SenderWords
+pub mod SenderLines
 pub mod ConformLines
 pub mod OutLines
 pub mod Texts

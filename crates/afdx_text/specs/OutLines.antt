@@ -162,4 +162,4 @@ longest (Listed kind time site port bytes) =
 longest (Remark word n) = 128 + length word.now
 longest (Refused n word) = 128 + length word.now
 longest (Check line) = longest_check line
-longest (Conform line) = 256
+longest (Conform line) = 384

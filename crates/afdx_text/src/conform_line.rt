@@ -1,14 +1,15 @@
 //! The lines of `conform`, and how each is put at a place of a room that is long enough for it.
 
-ghost use Rattle.std.specs.Prelude.{◌≡◌, ◌≤◌, ◌+◌, ◌++◌, codes, length, take};
-ghost use Rattle.std.specs.Fmt.{decimal};
-ghost use Rattle.afdx_text.specs.ConformLines.{answer_text, conform_text, count_text};
-ghost use Rattle.afdx_text.specs.ConformLines.{finding_text, found_text, judged_line};
+ghost use Rattle.std.specs.Prelude.{◌≡◌, ◌≤◌, ◌+◌, ◌++◌, length, take};
+ghost use Rattle.afdx_text.specs.ConformLines.{answer_text, conform_text, finding_text, judged_line};
 
-use crate::piece::{put, put_number, put_piece, put_small};
-use crate::place::LinePlace;
+use crate::found_piece::{put_by, put_count, put_found, put_word};
+use crate::piece::put;
+use crate::sender_lines::{SenderTotals, put_no_source, put_sender, put_senders};
+use crate::sender_words::NoSource;
 use afdx_conform::Finding;
 use afdx_frame::Side;
+use afdx_lawful::SenderFinding;
 
 /// Whether a recorded switch did what the rules say.
 #[derive(Clone, Copy, Debug, PartialEq, Eq)]
@@ -23,7 +24,8 @@ pub enum Answer {
 
 /// The answer; the frames that are explained; the arrivals whose frames may come later; those of
 /// which both answers are right; the lines that were left out; the streams that weren't recorded;
-/// those that were and of which nothing was shown.
+/// those that were and of which nothing was shown; and what is counted of senders, where these were
+/// judged.
 #[derive(Clone, Copy, Debug, PartialEq, Eq)]
 pub struct Conclusion {
     pub answer: Answer,
@@ -33,10 +35,11 @@ pub struct Conclusion {
     pub left_out: u64,
     pub unseen: u64,
     pub idle: u64,
+    pub senders: Option<SenderTotals>,
 }
 
 /// A line of `conform`. A stream is a link at an output port of a side; `n` is a line of CAME, but
-/// in `strange`, where it is one of LEFT; `port` is the output port.
+/// in `strange`, where it is one of LEFT; `port` is the output port, of a sender its system's port.
 #[derive(Clone, Copy, Debug, PartialEq, Eq)]
 pub enum ConformLine {
     /// What the switch did with a frame or an arrival: `strange n side port WORD`,
@@ -53,68 +56,27 @@ pub enum ConformLine {
         side: Side,
         port: u8,
     },
+    /// What a system did as a sender with a frame: `unlawful n side port WORD`,
+    /// `number n side port Q`, `soon n side port by`, `differs n side port`,
+    /// `apart n side port by` or `single n side port`.
+    Sender {
+        side: Side,
+        port: u8,
+        finding: SenderFinding,
+    },
+    /// A frame that a system sent is no source's: `unlawful n side port WORD`.
+    Sourceless {
+        n: u64,
+        side: Side,
+        port: u8,
+        why: NoSource,
+    },
     /// The last line.
     Judged(Conclusion),
 }
 
 /// The most bytes of a line of `conform`.
-pub(crate) const MOST_OF_CONFORM: usize = 256;
-
-/// Puts what is found, and of which frame: how each line of a finding begins.
-#[inline(never)]
-fn put_found(room: &mut [u8], at: usize, finding: &[u8], n: u64, side: Side, port: u8) -> usize
-    requires short { length finding.now ≤ 8 }
-    requires room { at + 128 ≤ length room.old }
-    ensures within { result ≤ at + 64 }
-    ensures text { take result room.new
-        ≡ take at room.old ++ found_text finding.now n side port }
-{
-    let at = put(room, at, finding);
-    let at = put_number(room, at, n);
-    let at = put(room, at, b" ");
-    let at = LinePlace::put(side, room, at);
-    let at = put(room, at, b" ");
-    put_small(room, at, port)
-}
-
-/// Puts a word behind what is found.
-#[inline(never)]
-fn put_word(room: &mut [u8], at: usize, word: &str) -> usize
-    requires short { length word.now ≤ 15 }
-    requires room { at + 32 ≤ length room.old }
-    ensures within { result ≤ at + 17 }
-    ensures text { take result room.new
-        ≡ take at room.old ++ codes " " ++ word.now ++ codes "\n" }
-{
-    let at = put(room, at, b" ");
-    let at = put_piece(room, at, word.as_bytes());
-    put(room, at, b"\n")
-}
-
-/// Puts by how many ns behind what is found.
-#[inline(never)]
-fn put_by(room: &mut [u8], at: usize, by: u64) -> usize
-    requires { at + 64 ≤ length room.old }
-    ensures within { result ≤ at + 22 }
-    ensures text { take result room.new
-        ≡ take at room.old ++ codes " " ++ decimal by ++ codes "\n" }
-{
-    let at = put(room, at, b" ");
-    let at = put_number(room, at, by);
-    put(room, at, b"\n")
-}
-
-/// Puts the name of a count, and the count.
-#[inline(never)]
-fn put_count(room: &mut [u8], at: usize, name: &[u8], count: u64) -> usize
-    requires short { length name.now ≤ 11 }
-    requires room { at + 48 ≤ length room.old }
-    ensures within { result ≤ at + 31 }
-    ensures text { take result room.new ≡ take at room.old ++ count_text name.now count }
-{
-    let at = put(room, at, name);
-    put_number(room, at, count)
-}
+pub(crate) const MOST_OF_CONFORM: usize = 384;
 
 /// Puts the answer, in words.
 #[inline(never)]
@@ -163,11 +125,12 @@ fn put_finding(room: &mut [u8], at: usize, side: Side, port: u8, finding: Findin
     }
 }
 
-/// `VERDICT explained N open K uncertain U left-out L unseen W idle I`.
+/// `VERDICT explained N open K uncertain U left-out L unseen W idle I`, and ` sent S cut C alone G`
+/// behind it where senders were judged.
 #[inline(never)]
 fn put_judged(room: &mut [u8], at: usize, judged: Conclusion) -> usize
-    requires { at + 256 ≤ length room.old }
-    ensures within { result ≤ at + 256 }
+    requires { at + 384 ≤ length room.old }
+    ensures within { result ≤ at + 384 }
     ensures text { take result room.new ≡ take at room.old ++ judged_line judged }
 {
     let at = put_answer(room, at, judged.answer);
@@ -177,6 +140,7 @@ fn put_judged(room: &mut [u8], at: usize, judged: Conclusion) -> usize
     let at = put_count(room, at, b" left-out ", judged.left_out);
     let at = put_count(room, at, b" unseen ", judged.unseen);
     let at = put_count(room, at, b" idle ", judged.idle);
+    let at = put_senders(room, at, judged.senders);
     put(room, at, b"\n")
 }
 
@@ -184,8 +148,8 @@ impl ConformLine {
     /// Puts the line at a place of the room, and tells where it ends.
     #[inline(never)]
     pub(crate) fn put_at(self, room: &mut [u8], at: usize) -> usize
-        requires { at + 256 ≤ length room.old }
-        ensures within { result ≤ at + 256 }
+        requires { at + 384 ≤ length room.old }
+        ensures within { result ≤ at + 384 }
         ensures text { take result room.new ≡ take at room.old ++ conform_text self }
     {
         match self {
@@ -197,6 +161,14 @@ impl ConformLine {
             ConformLine::Unsure { n, side, port } => {
                 let at = put_found(room, at, b"unsure ", n, side, port);
                 put(room, at, b"\n")
+            }
+            ConformLine::Sender {
+                side,
+                port,
+                finding,
+            } => put_sender(room, at, side, port, finding),
+            ConformLine::Sourceless { n, side, port, why } => {
+                put_no_source(room, at, n, side, port, why)
             }
             ConformLine::Judged(judged) => put_judged(room, at, judged),
         }

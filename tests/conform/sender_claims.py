@@ -1,0 +1,159 @@
+"""What must hold of a judge of senders: what is computed here, or the program."""
+from __future__ import annotations
+
+import random
+
+from conform_claims import FILES, Judge
+from conform_terms import SENDERS, Options
+from frames import raw_line, sealed
+from program import Answer, answers, must
+from rows import CONFIGS
+from sender_made import KINDS_AMISS, SIDES, Recording, amiss, is_right, right, small
+from sender_made import small_recording
+from sender_rows import SENDER_ROWS, SenderRow, list_of
+from senders import conform_senders
+
+BASE = CONFIGS["base"]
+PORTS = (1, 1, 1, 1, 2, 3, 5)  # where a frame comes in that is moved
+OUTPUT, WIRE = 3, 6_720  # where the frames of link 1 leave, and how long that takes
+NOTHING = " explained 0 open 0 uncertain 0 left-out 0 unseen 4 idle 0 "
+# of each option that is given, by its word
+VALUES = {"--slack": "slack", "--drift": "drift", "--apart": "apart", "--from": "start",
+          "--until": "until"}  # fmt: skip
+
+
+def answer_of(
+    judge: Judge, came: bytes, left: bytes | None, words: tuple[str, ...]
+) -> Answer:  # fmt: skip
+    """What is answered of senders alone, or beside the streams to what left."""
+    if judge.program is None:
+        return conform_senders(BASE, came, left, words)
+    inputs = [text for text in (BASE, came, left) if text is not None]
+    return judge.run(words, dict(zip(FILES, inputs)))
+
+
+def sender_row_holds(judge: Judge, row: SenderRow) -> None:
+    """It answers as the row spells out."""
+    wanted = row.answer()
+    answers(answer_of(judge, list_of(row.came), None, row.words()), wanted.status, wanted.out,
+            wanted.err)
+
+
+def words_of(options: Options) -> tuple[str, ...]:
+    """The words of options."""
+    words = [SENDERS]
+    for word, name in VALUES.items():
+        value = getattr(options, name)
+        if value is not None:
+            words += [word, str(value)]
+    return tuple(words)
+
+
+def text_of(made: Recording) -> bytes:
+    """A recording as a list."""
+    return b"".join(raw_line(each.time, SIDES[each.side], 1, each.content)
+                    for each in made.frames)
+
+
+def made_answer(judge: Judge, made: Recording) -> Answer:
+    """What is answered of a recording's senders."""
+    return answer_of(judge, text_of(made), None, words_of(made.options))
+
+
+def right_senders_conform(judge: Judge, seed: int, count: int) -> None:
+    """A right sender is never accused, whatever its clock, its stamps and its spacing."""
+    for case in range(count):
+        made = right(random.Random(f"{seed} {case} sender"))
+        found, sent = made_answer(judge, made), len(made.frames)
+        verdict = "conforms" if sent else "undecided"
+        must(found.out.decode().startswith(f"{verdict}{NOTHING}sent {sent} cut "),
+             f"case {case}: {found}")
+
+
+def amiss_is_found(judge: Judge) -> None:
+    """One thing amiss has the lines of its kind, and no other."""
+    for kind in KINDS_AMISS:
+        for at in (10, 11, 30):
+            *lines, _ = made_answer(judge, amiss(kind, at)).out.decode().splitlines()
+            words = {line.split()[0] for line in lines}
+            must(words == set((kind.__doc__ or "").split()), f"{kind.__name__}: {lines}")
+
+
+def senders_are_exact(judge: Judge, seed: int, count: int) -> None:
+    """By exact stamps nothing is found exactly where a right sender may have sent the frames."""
+    for case in range(count):
+        times, until = small(random.Random(f"{seed} {case} small sender"))
+        found = made_answer(judge, small_recording(times, until))
+        must((found.status != 5) == is_right(times, until), f"case {case}: {found}")
+
+
+def one_change(chance: random.Random, line: list[bytes]) -> list[list[bytes]]:
+    """A line that is as it was, or changed, twice there, or gone."""
+    kind, time, side, port, digits = line
+    how = chance.randrange(8)
+    if how == 0:
+        return []
+    if how == 1:
+        return [line, line]
+    if how == 2:
+        time = b"%d" % max(0, int(time) + chance.choice([-1, 1]) * chance.randint(0, 10**6))
+    elif how == 3:
+        port = b"%d" % chance.choice(PORTS)
+    elif how == 4:
+        side = chance.choice([b"A", b"B"])
+    elif how == 5:
+        content = bytearray.fromhex(digits.decode())[:-4]
+        content[chance.choice([5, 11, 20, 42, len(content) - 1])] = chance.choice([1, 2, 9, 64])
+        digits = sealed(bytes(content)).hex().encode()
+    elif how == 6:
+        digits = chance.choice([digits[:8], digits[:-2], digits + b"00"])
+    return [[kind, time, side, port, digits]]
+
+
+def changed(chance: random.Random, made: Recording) -> bytes:
+    """A recording as a list, with some lines changed."""
+    lines: list[list[bytes]] = []
+    for line in text_of(made).splitlines():
+        fields = line.split(b" ")
+        lines += one_change(chance, fields) if chance.random() < 0.15 else [fields]
+    lines.sort(key=lambda fields: int(fields[1]))
+    return b"".join(b" ".join(fields) + b"\n" for fields in lines)
+
+
+def left_of(came: bytes) -> bytes:
+    """What leaves a switch that passes all of it to one port."""
+    lines = [line.split(b" ") for line in came.splitlines()]
+    return b"".join(b"%s %d %s %d %s\n" % (kind, int(time) + WIRE, side, OUTPUT, digits)
+                    for kind, time, side, _, digits in lines)
+
+
+def senders_alike(judge: Judge, seed: int, count: int) -> None:
+    """It answers what is computed here, of senders alone and beside streams."""
+    found = set()
+    for case in range(count):
+        chance = random.Random(f"{seed} {case} senders")
+        made = right(chance)
+        came, words = changed(chance, made), words_of(made.options)
+        left = left_of(came) if chance.random() < 0.3 else None
+        words += ("--leave-out", "2") if chance.random() < 0.1 else ()
+        wanted = conform_senders(BASE, came, left, words)
+        found |= {line.split()[0] for line in wanted.out.decode().splitlines()}
+        answers(answer_of(judge, came, left, words), wanted.status, wanted.out, wanted.err)
+    must(count < 100 or found >= {"unlawful", "number", "soon", "differs", "apart", "single",
+                                  "conforms", "deviates"}, f"only {found}")
+
+
+def sender_cases(judge: Judge, who: str, seeds: range, count: int) -> list[tuple]:
+    """What a judge must answer of senders."""
+    cases: list[tuple] = [(f"{who}, senders: {row.name}", sender_row_holds, judge, row)
+                          for row in SENDER_ROWS]
+    cases.append((f"{who}, senders: one thing amiss", amiss_is_found, judge))
+    for seed in seeds:
+        cases.append((f"{who}, senders: right ones, {seed}", right_senders_conform, judge, seed,
+                      count))
+        cases.append((f"{who}, senders: exactly what a right one may send, {seed}",
+                      senders_are_exact, judge, seed, count))
+        if judge.program is not None:
+            cases.append((f"{who}, senders: made at random, {seed}", senders_alike, judge, seed,
+                          count))
+    return cases
