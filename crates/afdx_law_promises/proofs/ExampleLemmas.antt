@@ -1,5 +1,6 @@
 -- The example's numbers.
 use Rattle.afdx_config.proofs.AmongOthersLemmas.{among_others, admitted-serving}
+use Rattle.afdx_config.proofs.LawfulLinkLemmas.{example-lawful, with-others}
 use Rattle.afdx_switch.proofs.StreamLemmas.{accepted-stream}
 use Rattle.afdx_switch.specs.Regular.{at_port}
 use Rattle.afdx_law_promises.proofs.PromiseLemmas.{goes-there}
@@ -15,7 +16,8 @@ use Rattle.std.proofs.Common.{List, [], ◌∷◌, length, refl, sym, ap, ◌∙
 use Rattle.std.specs.Prelude.{Option, Some, None, All, slice_get, slice_index, filter, reverse, if◌then◌else◌}
 use Rattle.afdx_frame.specs.Grammar.{Buildable}
 use Rattle.afdx_frame.specs.Flows.{Flow, IsPortAdmitted, high_wait, low_wait, high_load}
-use Rattle.afdx_frame.specs.Regulation.{byte_units}
+use Rattle.afdx_frame.specs.Regulation.{byte_units, jitter_from_system}
+use Rattle.afdx_frame.specs.declared.link.Policing.TheVariants.{Byte}
 use Rattle.afdx_frame.specs.declared.link.Priority.TheVariants.{High, Low}
 use Rattle.afdx_config.specs.Flows.{flow_of_link}
 use Rattle.afdx_config.specs.Numbers.{after_steps}
@@ -106,20 +108,9 @@ is-lawful latency some most = record {
   links = record {
     count = omega arith;
     each = (
-      record {
-        vl = (omega arith, omega arith);
-        from = omega arith;
-        to = (omega arith, tt);
-        to_count = (omega arith, omega arith);
-        apart = refl;
-        bag_ms = refl;
-        lmin = (omega arith, omega arith);
-        lmax = (omega arith, omega arith);
-        jitter_us = (omega arith, omega arith);
-        latency_us = (some, most);
-        skew_us = (omega arith, omega arith);
-        subs = (omega arith, omega arith);
-      },
+      with-others jitter_from_system jitter_from_system 2 link
+          (example-lawful 2 0 1 (omega arith) (omega arith) refl) Byte 500 latency 1000 (omega arith) (some, most)
+          (omega arith, omega arith),
       tt,
     );
     identifiers = one-distinct (λ (l : LinkRow). l.vl) (link_with latency);
