@@ -43,7 +43,7 @@ module _ (s : Source) (x y : Came) (behind : y.time + hold s < x.time) where
       (none_near (λ n. is_within_steps 127 (number_in y) n) xs)
       (none_near (λ n. is_within_steps 127 n (number_in y)) xs)
 
-  on_then : (side : Side) (xs : List Came) →
+  pub on_then : (side : Side) (xs : List Came) →
       is_cut s (on_side side (whole_of (x ∷ xs))) y ≡ is_cut s (on_side side (whole_of xs)) y
   on_then side xs = by (is_whole x)
     where

@@ -91,7 +91,7 @@ turn_of s side xs end up = by s.is_paired (in_turn s side (whole_of xs) end (up_
     by true t = t
     by false t = _
 
-turn_behind : (from to : ℕ) (gone ys : List Waiting) → InTurn from to (gone ++ ys) → InTurn 0 to ys
+pub turn_behind : (from to : ℕ) (gone ys : List Waiting) → InTurn from to (gone ++ ys) → InTurn 0 to ys
 turn_behind from to [] ys h = from_sooner from 0 to ys (omega arith) h
 turn_behind from to (y ∷ gone) ys h = turn_behind y.frame.time to gone ys h.2
 
@@ -107,7 +107,7 @@ pub open_by : (s : Source) (time to : ℕ) (ys : List Waiting) → InTurn 0 to y
 open_by s time to [] t h = _
 open_by s time to (y ∷ ys) t h = (h, all_open s time y.frame.time to ys h t.2)
 
-sooner_a : (s : Source) (time : ℕ) (a b : Option Waiting) → NotBefore s time (sooner a b) → NotBefore s time a
+pub sooner_a : (s : Source) (time : ℕ) (a b : Option Waiting) → NotBefore s time (sooner a b) → NotBefore s time a
 sooner_a s time None b h = _
 sooner_a s time (Some a) None h = h
 sooner_a s time (Some a) (Some b) h = by (nat_le a.frame.time b.frame.time) refl h
@@ -117,7 +117,7 @@ sooner_a s time (Some a) (Some b) h = by (nat_le a.frame.time b.frame.time) refl
     by true e h = h
     by false e h = omega (arith, leb-false a.frame.time b.frame.time e, h)
 
-sooner_b : (s : Source) (time : ℕ) (a b : Option Waiting) → NotBefore s time (sooner a b) → NotBefore s time b
+pub sooner_b : (s : Source) (time : ℕ) (a b : Option Waiting) → NotBefore s time (sooner a b) → NotBefore s time b
 sooner_b s time a None h = _
 sooner_b s time None (Some b) h = h
 sooner_b s time (Some a) (Some b) h = by (nat_le a.frame.time b.frame.time) refl h

@@ -141,7 +141,7 @@ module _ (s : Source) (c : Course) (y : Waiting) (tally : SourceTally) where
 -- ---- once all was told
 
 module _ (s : Source) (xs : List Came) where
-  alone_is : (us : List Unpaired) → AreJudged s xs us →
+  pub alone_is : (us : List Unpaired) → AreJudged s xs us →
       filter (λ (y : Waiting). not (is_cut_of s xs y)) (waited_of us) ≡ alone_of us
   alone_is [] h = refl
   alone_is (u ∷ us) h = by (is_cut_of s xs u.waited) u.is_cut h.0 (alone_is us h.1)
