@@ -1,15 +1,12 @@
 -- Numbers that go no further than their type does, and how many frames are held.
-use Rattle.std.proofs.Common.{◌≡◌, ℕ, ◌+◌, ◌<◌, ◌≤◌, Bool, true, false, List, length, get_or, set, refl, sym, ap, ◌∙◌, arith}
+use Rattle.std.proofs.Common.{◌≡◌, ℕ, ◌+◌, ◌<◌, ◌≤◌, Bool, true, false, List, length, get_or, set, ap, ◌∙◌, arith}
 use Rattle.std.proofs.lemmas.List.Sums.{sum_by-set}
 use Rattle.std.specs.List.{sum_by}
-use Rattle.std.specs.Prelude.{min, not, is_some, if◌then◌else◌, slice_get, Option, Some, None, suc}
-use Rattle.afdx_config.specs.Rows.{LinkRow, Rows}
+use Rattle.std.specs.Prelude.{min, if◌then◌else◌, Option, suc}
 use Rattle.afdx_lawful.specs.Tallies.{counted, most_counted}
 use Rattle.afdx_lawful.specs.declared.sender.JudgedSource.{JudgedSource}
-use Rattle.afdx_senders.specs.Counting.{alone_below, is_alone, is_alone_of, cut_below, cut_of, held_at, sent_below, sent_of}
-use Rattle.afdx_senders.specs.Followed.{ByPlace, Followed}
-use Rattle.afdx_senders.specs.Sites.{Recorded}
-use Rattle.afdx_senders.specs.Terms.{is_paired}
+use Rattle.afdx_senders.specs.Counting.{cut_below, cut_of, held_at, sent_below, sent_of}
+use Rattle.afdx_senders.specs.Followed.{ByPlace}
 
 one_more : (a b : ℕ) → min (counted a + b) most_counted ≡ counted (a + b)
 one_more a b = omega arith
@@ -47,34 +44,6 @@ fewer_held xs place old new within is less =
     let here = ap held_at is in
     let sums = sum_by-set held_at xs place new old within in
     omega (arith, less, here, sums)
-
--- a source of which not both sites were recorded
-module _ (t : Rows) (recorded : Recorded) where
-  pub seen_alone : (place : ℕ) (o : Option Followed) (l : LinkRow) (paired : Bool) → slice_get t.links place ≡ Some l →
-      true ≡ is_some o
-      → paired ≡ is_paired t recorded l
-      → not paired ≡ is_alone t recorded place o
-  unfolding is_alone
-  seen_alone place None l paired there has is = absurd (cc)
-  seen_alone place (Some f) l paired there has is = ap not is ∙ ap (λ r. is_alone_of t recorded r) (sym there)
-
-  pub none_alone : (place : ℕ) (o : Option Followed) → false ≡ is_some o → false ≡ is_alone t recorded place o
-  unfolding is_alone
-  none_alone place None has = refl
-  none_alone place (Some f) has = absurd (cc)
-
-  pub no_alone : (at : ByPlace) → 0 ≡ alone_below t recorded at 0
-  unfolding alone_below
-  no_alone at = refl
-
-  pub alone_next : (at : ByPlace) (place count : ℕ) (b : Bool) → count ≡ alone_below t recorded at place →
-      b ≡ is_alone t recorded place (at place)
-      → count + (if b then 1 else 0) ≡ alone_below t recorded at (place + 1)
-  unfolding alone_below
-  alone_next at place count b before is =
-      ap (λ n. n + (if b then 1 else 0)) before
-      ∙ ap (λ (x : Bool). alone_below t recorded at place + (if x then 1 else 0)) is
-      ∙ ap (λ n. alone_below t recorded at n) (one_on place)
 
 pub one_at_most : (n place count : ℕ) (b : Bool) → count ≡ n + (if b then 1 else 0) → n ≤ place → count ≤ place + 1
 one_at_most n place count true is few = omega (arith, is, few)

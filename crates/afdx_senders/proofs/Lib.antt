@@ -1,3 +1,4 @@
+pub mod ListLemmas
 pub mod SiteLemmas
 pub mod TermLemmas
 pub mod FollowedLemmas
@@ -6,3 +7,13 @@ pub mod OrderLemmas
 pub mod LineLemmas
 pub mod StandingLemmas
 pub mod SettlingLemmas
+pub mod WaitingLemmas
+pub mod EarlyLemmas
+pub mod OwnLemmas
+pub mod SettledLemmas
+pub mod OverLemmas
+pub mod TellingLemmas
+pub mod BegunLemmas
+pub mod HistoryLemmas
+pub mod CountsLemmas
+pub mod NewLemmas

@@ -13,8 +13,9 @@ use Rattle.afdx_lawful.specs.Unpaired.{IsToldOf}
 use Rattle.afdx_lawful.specs.declared.unpaired.UnpairedFrame.{UnpairedFrame}
 use Rattle.afdx_senders.specs.Lines.{lines_single, single_line}
 use Rattle.afdx_senders.specs.Followed.{Followed, IsFound, MayCome, came_of}
-use Rattle.afdx_senders.specs.Lines.{AddsLines, MayComeThere, OfSource, came_line, found_at, line_of, lines_found, some_found}
+use Rattle.afdx_senders.specs.Lines.{AddsLines, MayComeThere, OfSource, found_at, line_at, line_of, lines_found, some_found}
 use Rattle.afdx_senders.specs.Lines.{told_line}
+use Rattle.afdx_senders.specs.Sites.{came_at}
 use Rattle.afdx_senders.specs.declared.sender_line.SenderLine.{SenderLine}
 use Rattle.afdx_senders.specs.declared.sender_line.ToldOf.TheVariants.{Heard}
 use Rattle.afdx_senders.specs.declared.site_frame.SiteFrame.{SiteFrame}
@@ -30,10 +31,10 @@ quiet_none x (f ∷ fs) h = absurd (cc)
 -- something was
 pub loud_one : (x : SiteFrame) (heard : HeardFrame) (fs : List SenderFinding) → told_heard x.line heard ≡ fs →
     is_empty fs ≡ false → map line_of (told_line x (Heard heard) ∷ []) ≡ lines_found x (some_found fs)
-loud_one x heard fs is loud = ap (λ gs. came_line x (OfSource gs) ∷ []) is ∙ by fs loud
+loud_one x heard fs is loud = ap (λ gs. line_at (came_at x) (OfSource gs) ∷ []) is ∙ by fs loud
   where
     by : (gs : List SenderFinding) → is_empty gs ≡ false →
-        came_line x (OfSource gs) ∷ [] ≡ lines_found x (some_found gs)
+        line_at (came_at x) (OfSource gs) ∷ [] ≡ lines_found x (some_found gs)
     by [] h = absurd (cc)
     by (g ∷ gs) h = refl
 

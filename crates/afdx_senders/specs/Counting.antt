@@ -1,15 +1,11 @@
 -- What is counted of all sources that are followed, and how many frames they hold.
 use Rattle.std.specs.Prelude.{ℕ, ◌+◌, ◌<◌, ◌^◌, zero, suc, length, Option, Some, None}
-use Rattle.std.specs.Prelude.{Bool, false, not, if◌then◌else◌, slice_get}
 use Rattle.std.specs.List.{sum_by}
-use Rattle.afdx_config.specs.Rows.{LinkRow, Rows}
 use Rattle.afdx_lawful.specs.Courses.{AllTold}
 use Rattle.afdx_lawful.specs.Judged.{judged_source}
 use Rattle.afdx_lawful.specs.Senders.{held_in}
 use Rattle.afdx_lawful.specs.declared.sender.JudgedSource.{JudgedSource}
 use Rattle.afdx_senders.specs.Followed.{ByPlace, Followed}
-use Rattle.afdx_senders.specs.Sites.{Recorded}
-use Rattle.afdx_senders.specs.Terms.{is_paired}
 use Rattle.afdx_senders.specs.declared.followed.FollowedSources.{FollowedSources}
 
 -- how many frames a source holds, and all of them
@@ -45,18 +41,3 @@ sent_below at (suc n) = sent_below at n + sent_of (at n)
 unfoldable pub cut_below : ByPlace → ℕ → ℕ
 cut_below at zero = 0
 cut_below at (suc n) = cut_below at n + cut_of (at n)
-
-module _ (t : Rows) (recorded : Recorded) where
-  abbrev pub is_alone_of : Option LinkRow → Bool
-  is_alone_of None = false
-  is_alone_of (Some l) = not (is_paired t recorded l)
-
-  -- a source is followed at this place, of which not both sites were recorded
-  unfoldable pub is_alone : ℕ → Option Followed → Bool
-  is_alone place None = false
-  is_alone place (Some f) = is_alone_of (slice_get t.links place)
-
-  -- how many there are before a place
-  unfoldable pub alone_below : ByPlace → ℕ → ℕ
-  alone_below at zero = 0
-  alone_below at (suc n) = alone_below at n + (if is_alone n (at n) then 1 else 0)

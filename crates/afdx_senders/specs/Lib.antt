@@ -1,9 +1,15 @@
 pub mod Sites
 pub mod Strays
 pub mod Terms
+pub mod Setups
 pub mod Followed
 pub mod Counting
 pub mod Order
 pub mod Lines
+pub mod AllLines
+pub mod Telling
 pub mod Standing
 pub mod Settling
+pub mod SenderCounts
+pub mod History
+pub mod SenderLaws

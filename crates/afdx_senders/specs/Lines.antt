@@ -10,7 +10,9 @@ use Rattle.afdx_lawful.specs.Partners.{Waiting}
 use Rattle.afdx_lawful.specs.OneSide.{told_heard}
 use Rattle.afdx_lawful.specs.declared.finding.SenderFinding.{SenderFinding}
 use Rattle.afdx_lawful.specs.declared.finding.SenderFinding.TheVariants as finding
+use Rattle.afdx_police.specs.Arrival.{Arrival}
 use Rattle.afdx_senders.specs.Followed.{ByPlace, Followed, MayCome, came_next, came_of, put_at}
+use Rattle.afdx_senders.specs.Sites.{came_at}
 use Rattle.afdx_senders.specs.Strays.{stray_of}
 use Rattle.afdx_senders.specs.declared.sender_line.SenderLine.{SenderLine}
 use Rattle.afdx_senders.specs.declared.sender_line.ToldOf.{ToldOf}
@@ -53,9 +55,12 @@ told_line x told =
     record { moment = x.time; side = x.side; port = x.port; line = x.line; told = told }
 
 -- the line of a frame that came
-abbrev pub came_line : SiteFrame → FoundBy → Line
-came_line x found =
-    record { moment = x.time; side = x.side; port = x.port; line = x.line; found = found }
+abbrev pub line_at : Arrival → FoundBy → Line
+line_at x found =
+    record { moment = x.time; side = x.side; port = x.port; line = x.tag; found = found }
+
+abbrev pub lines_at : Arrival → Option FoundBy → List Line
+lines_at x found = option_to_list (option_map (line_at x) found)
 
 -- nothing is told where nothing is found
 abbrev pub some_found : List SenderFinding → Option FoundBy
@@ -72,7 +77,7 @@ found_by at x (Source place) = found_at x (at place)
 found_by at x whose = option_map OfNone (stray_of whose (bytes_of x.frame))
 
 abbrev pub lines_found : SiteFrame → Option FoundBy → List Line
-lines_found x found = option_to_list (option_map (came_line x) found)
+lines_found x found = lines_at (came_at x) found
 
 -- the lines of a frame that is of no source
 abbrev pub lines_strayed : SiteFrame → SourceOf → List Line
@@ -96,16 +101,20 @@ abbrev pub MayComeTo : ByPlace → SiteFrame → SourceOf → Type 0
 MayComeTo at x (Source place) = MayComeThere x (at place)
 MayComeTo at x whose = Unit {0}
 
--- that of a frame which waited in vain, where its source's system stands at this port; none, if its
--- copy may be cut off
-abbrev pub single_line : (port line : ℕ) → Side → (moment : ℕ) → (is_cut : Bool) → List Line
-single_line port line side moment is_cut = if is_cut then [] else record {
+-- that of a frame which waited in vain, where its source's system stands at this port
+abbrev pub single_with : (port line : ℕ) → Side → (moment : ℕ) → Line
+single_with port line side moment = record {
   moment = moment;
   side = side;
   port = port;
   line = line;
   found = OfSource (finding.Single line ∷ []);
-} ∷ []
+}
+
+-- none, if its copy may be cut off
+abbrev pub single_line : (port line : ℕ) → Side → (moment : ℕ) → (is_cut : Bool) → List Line
+single_line port line side moment is_cut =
+    if is_cut then [] else single_with port line side moment ∷ []
 
 abbrev pub lines_single : (port : ℕ) → Followed → Waiting → List Line
 lines_single port f y = single_line port y.frame.line y.frame.side (told_at f.source y)

@@ -36,10 +36,14 @@ is_same_rank = on rank_of ◌==◌
 abbrev pub by_rank : SenderLine → SenderLine → Ordering
 by_rank = flip_args (on rank_of nat_cmp)
 
--- its moment lies before that time, if there is one
+-- the moment lies before that time, if there is one
+abbrev pub is_moment_before : Option ℕ → ℕ → Bool
+is_moment_before None moment = true
+is_moment_before (Some time) moment = nat_lt moment time
+
+-- its moment does
 abbrev pub is_before : Option ℕ → SenderLine → Bool
-is_before None x = true
-is_before (Some time) x = nat_lt x.moment time
+is_before before x = is_moment_before before x.moment
 
 abbrev pub IsBefore : Option ℕ → SenderLine → Type 0
 IsBefore before x = is_before before x ≡ true

@@ -121,6 +121,7 @@ impl FollowedSources {
             AreFollowed at self.new }
         ensures silent { (at : ByPlace) → at place ≡ None → AreFollowed at self.old →
             IfOk result (λ heard. heard ≡ None) }
+        ensures room { length self.new.slots.items ≡ length self.old.slots.items }
     {
         if place >= self.slots.len() {
             return Ok(None);
@@ -187,6 +188,7 @@ impl FollowedSources {
         ensures empty { (at : ByPlace) → at place ≡ None → AreFollowed at self.old →
             (result ≡ None) × AreFollowed at self.new }
         ensures less { IfSome result (λ told. held_in_all self.new < held_in_all self.old) }
+        ensures room { length self.new.slots.items ≡ length self.old.slots.items }
     {
         if place >= self.slots.len() {
             return None;

@@ -65,6 +65,7 @@ impl FoundLines {
     pub fn take_before(&mut self, before: Option<u64>) -> Option<SenderLine>
         ensures first { IfSome result (λ x. All (λ y. spec.rank_of x ≤ spec.rank_of y) self.new) }
         ensures in_time { IfSome result (IsBefore before) }
+        ensures numbers { IfSome result spec.AreInType }
         ensures rest { IfSome result (λ x. IsPermutation self.old (x ∷ self.new)) }
         ensures fewer { IfSome result (λ x. length self.new < length self.old) }
         ensures none { IfNone result (AreNotBefore before self.old) }

@@ -5,13 +5,17 @@
 //! go by their moments.
 #![tactic(auto)]
 
+mod agenda;
 mod followed;
 mod found_lines;
+mod hearing;
+pub mod laws;
 mod link_places;
 mod new_source;
 mod recorded_ports;
 mod sender_line;
 mod senders;
+mod settling;
 mod site_frame;
 mod sites;
 mod stray;

@@ -1,15 +1,14 @@
-use Rattle.std.proofs.Common.{◌≡◌, ℕ, ◌+◌, Bool, arith, sym, ◌∙◌, ap}
+use Rattle.std.proofs.Common.{◌≡◌, ℕ, ◌+◌, Bool, arith, length, sym, ◌∙◌, ap}
 use Rattle.std.specs.Prelude.{if◌then◌else◌}
-use Rattle.afdx_senders.specs.Sites.{recorded_in}
-use Rattle.afdx_senders.proofs.CountingLemmas.{alone_next, as_before, no_alone, one_at_most}
+use Rattle.afdx_config.specs.Rows.{Rows}
+use Rattle.afdx_senders.specs.SenderCounts.{alone_up_to}
+use Rattle.afdx_senders.proofs.CountingLemmas.{as_before, one_at_most}
+use Rattle.afdx_senders.proofs.CountsLemmas.{alone_next, no_alone}
 use Rattle.afdx_senders.proofs.senders.Senders.alone.Goals.{else-is_alone, then-is_alone}
 use Rattle.afdx_senders.proofs.senders.Senders.alone.Goals as goal
 
 pub loop-place-init : goal.loop-place-init
-loop-place-init c = record {
-  few = omega arith;
-  sum = λ at stand. no_alone c.args.self.now.sites.tables.now (recorded_in c.args.self.now.sites.recorded) at;
-}
+loop-place-init c = record { few = omega arith; sum = λ z before xs told h. no_alone z }
 
 pub loop-place-preserved : goal.loop-place-preserved
 loop-place-preserved c =
@@ -20,8 +19,19 @@ loop-place-preserved c =
       | else-is_alone w ↦ w.count-is ∙ as_before n c.is_alone.result w.if-is_alone.false
     ] in record {
       few = one_at_most n place c.if-is_alone.count c.is_alone.result added c.loop-place.invariant.few;
-      sum = λ at stand.
+      sum = λ z before xs told h.
           added
-          ∙ alone_next c.args.self.now.sites.tables.now (recorded_in c.args.self.now.sites.recorded) at place n
-          c.is_alone.result (c.loop-place.invariant.sum at stand) (c.is_alone.ensures at stand);
+          ∙ alone_next z place n c.is_alone.result (c.loop-place.invariant.sum z before xs told h)
+          (c.is_alone.ensures z before xs told h);
     }
+
+pub returns : goal.returns
+returns c z before xs told h =
+    let all : c.loop-place.place ≡ length c.args.self.now.sites.tables.now.links = omega (
+      arith,
+      c.loop-place-test.false,
+      c.loop-place.auto.place-end,
+      c.link_count-place-end.ensures.count,
+    ) in
+    c.loop-place.invariant.sum z before xs told h ∙ ap (alone_up_to z) all
+    ∙ ap (λ (t : Rows). alone_up_to z (length t.links)) h.setup.tables

@@ -1,13 +1,14 @@
-use Rattle.std.proofs.Common.{◌≡◌, ◌≤◌}
-use Rattle.afdx_senders.specs.Counting.{alone_below}
-use Rattle.afdx_senders.specs.Followed.{ByPlace}
-use Rattle.afdx_senders.specs.Sites.{recorded_in}
-use Rattle.afdx_senders.specs.Standing.{SendersStand}
+use Rattle.std.proofs.Common.{◌≡◌, ◌≤◌, ℕ, List, Option}
+use Rattle.afdx_police.specs.Arrival.{Arrival}
+use Rattle.afdx_senders.specs.History.{HaveTold}
+use Rattle.afdx_senders.specs.Lines.{Line}
+use Rattle.afdx_senders.specs.SenderCounts.{alone_up_to}
+use Rattle.afdx_senders.specs.Setups.{Setup}
 use Rattle.afdx_senders.proofs.senders.Senders.alone.Given as goal
 
 abbrev pub invariant-loop-place : goal.invariant-loop-place
 invariant-loop-place l = record {
   few : l.count ≤ l.place;
-  sum : (at : ByPlace) → SendersStand at l.self →
-      l.count ≡ alone_below l.self.sites.tables.now (recorded_in l.self.sites.recorded) at l.place;
+  sum : (z : Setup) (before : Option ℕ) (xs : List Arrival) (told : List Line) → HaveTold z before xs told l.self →
+      l.count ≡ alone_up_to z l.place;
 }

@@ -1,13 +1,20 @@
-use Rattle.std.proofs.Common.{sym, ◌∙◌, subst}
-use Rattle.std.specs.Prelude.{OnOk}
-use Rattle.afdx_senders.specs.Lines.{AddsLines, MayComeTo, found_by, lines_found}
-use Rattle.afdx_senders.specs.declared.sites.SourceOf.{SourceOf}
+use Rattle.std.proofs.Common.{ap₂, sym}
+use Rattle.afdx_senders.specs.Sites.{came_at, recorded_in, source_of}
+use Rattle.afdx_senders.proofs.BegunLemmas.{has_begun}
+use Rattle.afdx_senders.proofs.HistoryLemmas.{always_err, may_then, ok_both, one_came}
 use Rattle.afdx_senders.proofs.senders.Senders.came.Goals as goal
 
-pub returns-in-Source-clause-found : goal.returns-in-Source-clause-found
-returns-in-Source-clause-found c at may stand =
+pub returns-clause-came : goal.returns-clause-came
+returns-clause-came c z xs told h =
     let x = c.args.x.now in
-    let is = sym c.source_of-whose.ensures ∙ c.in-Source.is in
-    subst (λ (w : SourceOf). OnOk c.came_to.result
-    (AddsLines (lines_found x (found_by at x w)) c.args.self.now.found c.came_to.new.self.found)) (sym is)
-    (c.came_to.ensures.found at (subst (λ (w : SourceOf). MayComeTo at x w) is may) stand)
+    let old = c.args.self.now in
+    let whose = source_of old.sites.tables.now (recorded_in old.sites.recorded) (came_at x) in
+    let is = sym (ap₂ (λ t r. source_of t r (came_at x)) h.setup.tables h.setup.recorded) in
+    let may = may_then z x xs told old h whose is in
+    ok_both (λ stand adds. one_came z x xs told old h whose is c.hear.new.self c.hear.ensures.sites
+    c.hear.ensures.room stand adds) c.hear.result (c.hear.ensures.stands h.at may h.stand)
+    (c.hear.ensures.found h.at may h.stand)
+
+pub returns-clause-refused : goal.returns-clause-refused
+returns-clause-refused c z xs told h =
+    always_err (has_begun z _ xs told _ h.lines) c.hear.result

@@ -1,17 +1,22 @@
-use Rattle.std.proofs.Common.{◌≡◌, List, Some, refl, sym, ◌∙◌, ap, subst}
+use Rattle.std.proofs.Common.{◌≡◌, ℕ, length, List, Some, refl, sym, ◌∙◌, ap, subst}
 use Rattle.std.specs.Prelude.{slice_get}
 use Rattle.afdx_config.specs.Rows.{Rows}
 use Rattle.afdx_law_bounds.specs.Tables.{port_of}
 use Rattle.afdx_senders.specs.Lines.{AddsLines, lines_single}
 use Rattle.afdx_senders.specs.Settling.{Step, after_steps, lines_told}
+use Rattle.afdx_senders.specs.declared.followed.FollowedSources.{FollowedSources}
 use Rattle.afdx_senders.specs.declared.sender_line.SenderLine.{SenderLine}
 use Rattle.afdx_senders.specs.declared.sites.SenderSites.{SenderSites}
 use Rattle.afdx_senders.proofs.SettlingLemmas.{due_frame, known_by, no_step, one_step, sources_after}
 use Rattle.afdx_senders.proofs.senders.Senders.settle.Goals as goal
 
+abbrev room_of : FollowedSources → ℕ
+room_of kept = length kept.slots.items
+
 pub loop-place-init : goal.loop-place-init
 loop-place-init c = record {
   sites = refl;
+  room = refl;
   so_far = λ at until stand all ends.
       no_step c.args.self.now.sites.tables.now c.args.before at c.args.self.now stand;
 }
@@ -30,6 +35,7 @@ returns-then-not-waited-clause-settled c at until stand all ends =
 pub loop-place-preserved : goal.loop-place-preserved
 loop-place-preserved c = record {
   sites = c.tell.ensures.sites ∙ c.in-Some.ensures.sites ∙ c.loop-place.invariant.sites;
+  room = c.tell.ensures.room ∙ ap room_of c.in-Some.ensures.kept ∙ c.loop-place.invariant.room;
   so_far = λ at until stand all ends.
       let t = c.args.self.now.sites.tables.now in
       let place = c.in-Some.place in
@@ -64,3 +70,14 @@ returns-clause-settled c at until stand all ends =
       subst (λ (xs : List SenderLine). AddsLines (lines_told t far.steps) c.args.self.now.found xs)
           (sym c.in_default.ensures.found) far.lines,
     )
+
+pub returns-in_err-waited-clause-room : goal.returns-in_err-waited-clause-room
+returns-in_err-waited-clause-room c =
+    c.tell.ensures.room ∙ ap room_of c.in-Some.ensures.kept ∙ c.loop-place.invariant.room
+
+pub returns-then-not-waited-clause-room : goal.returns-then-not-waited-clause-room
+returns-then-not-waited-clause-room c =
+    c.tell.ensures.room ∙ ap room_of c.in-Some.ensures.kept ∙ c.loop-place.invariant.room
+
+pub returns-clause-room : goal.returns-clause-room
+returns-clause-room c = ap room_of c.in_default.ensures.kept ∙ c.loop-place.invariant.room

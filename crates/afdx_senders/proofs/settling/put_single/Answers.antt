@@ -3,7 +3,7 @@ use Rattle.afdx_senders.specs.Lines.{single_line}
 use Rattle.afdx_senders.specs.declared.sender_line.SenderLine.{SenderLine}
 use Rattle.afdx_senders.specs.declared.sender_line.ToldOf.TheVariants.{Single}
 use Rattle.afdx_senders.proofs.StandingLemmas.{on_ok}
-use Rattle.afdx_senders.proofs.senders.put_single.Goals as goal
+use Rattle.afdx_senders.proofs.settling.put_single.Goals as goal
 
 pub returns : goal.returns
 returns c =

@@ -5,7 +5,7 @@ use Rattle.afdx_senders.specs.Followed.{IsFound}
 use Rattle.afdx_senders.specs.Lines.{AddsLines, line_of}
 use Rattle.afdx_senders.proofs.LineLemmas.{adds_none, loud_one, quiet_none}
 use Rattle.afdx_senders.proofs.StandingLemmas.{on_ok}
-use Rattle.afdx_senders.proofs.senders.put_heard.Goals as goal
+use Rattle.afdx_senders.proofs.hearing.put_heard.Goals as goal
 
 pub returns-then-is_quiet-clause-found : goal.returns-then-is_quiet-clause-found
 returns-then-is_quiet-clause-found c fs found =

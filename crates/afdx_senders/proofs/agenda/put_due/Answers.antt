@@ -5,7 +5,7 @@ use Rattle.std.specs.List.{Contains}
 use Rattle.afdx_law_bounds.proofs.ListLemmas.{contains_head, contains_tail}
 use Rattle.afdx_senders.specs.Standing.{awaited}
 use Rattle.afdx_senders.proofs.StandingLemmas.{on_ok}
-use Rattle.afdx_senders.proofs.senders.put_due.Goals as goal
+use Rattle.afdx_senders.proofs.agenda.put_due.Goals as goal
 
 pub returns-in-Some : goal.returns-in-Some
 returns-in-Some c =

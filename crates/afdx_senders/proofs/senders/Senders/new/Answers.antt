@@ -1,0 +1,15 @@
+use Rattle.std.proofs.Common.{ap, ◌∙◌}
+use Rattle.afdx_senders.specs.Sites.{recorded_in}
+use Rattle.afdx_senders.proofs.NewLemmas.{at_rest}
+use Rattle.afdx_senders.proofs.senders.Senders.new.Goals as goal
+
+pub returns : goal.returns
+returns c k before =
+    at_rest c.args.tables.now (recorded_in c.args.recorded) k before _ (record {
+      tables = c.in_ok-sites.ensures.tables;
+      recorded = ap recorded_in c.in_ok-sites.ensures.recorded;
+      room = c.in_ok-kept.ensures.room ∙ c.link_count.ensures.count;
+    }) (record {
+      followed = c.in_ok-kept.ensures.none;
+      agenda = λ place m due. absurd (cc);
+    }) c.new-4.ensures

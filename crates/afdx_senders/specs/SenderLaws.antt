@@ -1,0 +1,62 @@
+-- Laws over the lines of the senders of a switch. Lists have the newest first.
+use Rattle.std.specs.Prelude.{◌≡◌, ℕ, ◌<◌, Option, Some, List, [], ◌∷◌, ◌++◌, filter}
+use Rattle.std.specs.List.{All}
+use Rattle.afdx_conform.specs.Levels.{parts}
+use Rattle.afdx_police.specs.Arrival.{Arrival}
+use Rattle.afdx_senders.specs.AllLines.{all_lines, is_early}
+use Rattle.afdx_senders.specs.History.{HaveTold}
+use Rattle.afdx_senders.specs.Lines.{Line}
+use Rattle.afdx_senders.specs.Setups.{Setup, ending}
+use Rattle.afdx_senders.specs.Telling.{AreToldBefore, AreToldEarly, ComeFrom, HaveBegun, IsEndSince}
+use Rattle.afdx_senders.specs.declared.senders.Senders.{Senders}
+
+-- ---- early
+
+-- the lines of moments before a time are the same, whatever comes at it or later
+abbrev pub EarlyLinesStay : Type 0
+EarlyLinesStay =
+    (z : Setup) (time : ℕ) (more xs : List Arrival) →
+    ComeFrom (Some time) more →
+    filter (is_early (Some time)) (all_lines z (more ++ xs))
+    ≡ filter (is_early (Some time)) (all_lines z xs)
+
+-- where just these lines are told, whenever the recordings end, they are so whatever comes
+abbrev pub WhatIsToldIsEarly : Type 0
+WhatIsToldIsEarly =
+    (z : Setup) (said : Option ℕ) (time : ℕ) (xs : List Arrival) (told : List Line) →
+    ((until : ℕ) → IsEndSince said time until →
+    AreToldBefore (ending until z) (Some time) xs told) →
+    AreToldEarly z said time xs told
+
+-- at any call what was told is the first of all lines, whatever else comes
+abbrev pub WhatIsToldIsFirst : Type 0
+WhatIsToldIsFirst =
+    (z : Setup) (before : Option ℕ) (xs : List Arrival) (told : List Line) (senders : Senders) →
+    HaveTold z before xs told senders →
+    HaveBegun z before xs told
+
+-- ---- one answer
+
+-- two frames have another line, or came at another port or side
+abbrev pub AreTwo : Arrival → Arrival → Type 0
+AreTwo x y = x.tag ≡ y.tag → x.side ≡ y.side → x.port ≡ y.port → ⊥
+
+-- each is told from those before it by its line, side and port, which are such as frames have
+pub record IsNumbered (x : Arrival) (past : List Arrival) : Type 0 where
+  pub apart : All (AreTwo x) past
+  pub port : x.port < 0x100
+  pub line : x.tag < 0x10000000000000000
+
+abbrev pub AreNumbered : List Arrival → Type 0
+AreNumbered [] = Unit {0}
+AreNumbered (x ∷ past) = IsNumbered x past × AreNumbered past
+
+-- what is told before a time is a function of the setup and the frames
+abbrev pub WhatIsToldIsOne : Type 0
+WhatIsToldIsOne =
+    (z : Setup) (before : Option ℕ) (xs : List Arrival) (told others : List Line) →
+    z.asked.by.drift < parts →
+    AreNumbered xs →
+    AreToldBefore z before xs told →
+    AreToldBefore z before xs others →
+    told ≡ others

@@ -1,0 +1,17 @@
+//! Laws over the definitions.
+
+ghost use Rattle.afdx_senders.specs.SenderLaws.{EarlyLinesStay, WhatIsToldIsEarly, WhatIsToldIsFirst};
+
+/// Which lines are of moments before a time isn't changed by what comes at it or later. So what
+/// `Senders::next` told before a time stays just these lines, whatever else comes, and whenever the
+/// recordings end from then on.
+pub fn early_lines_stay()
+    ensures stay { EarlyLinesStay }
+    ensures told { WhatIsToldIsEarly }
+{}
+
+/// At any call what was told is the first of all lines: whatever else comes, no other one comes
+/// sooner.
+pub fn what_is_told_is_first()
+    ensures { WhatIsToldIsFirst }
+{}
