@@ -7,6 +7,7 @@ use Rattle.afdx_frame.specs.Lines.{first_false, each_from}
 use Rattle.afdx_frame.specs.Reading.{BuiltIsComputed}
 use Rattle.afdx_frame.proofs.FirstFalseLemmas.{holds_append}
 use Rattle.afdx_frame.specs.Regulation.{byte_units}
+use Rattle.afdx_frame.specs.declared.link.Policing.TheVariants.{Byte}
 use Rattle.afdx_frame.specs.declared.link.Priority.TheVariants.{High, Low}
 use Rattle.afdx_frame.specs.declared.link.Side.TheVariants.{A}
 use Rattle.afdx_admit.specs.Cascade.{row_at, row_before, is_sent_here, way_latency, reads}
@@ -23,6 +24,7 @@ use Rattle.afdx_config.specs.Switches.{own_has_id, starts, home_of, home_of_id, 
 use Rattle.afdx_config.specs.Switches.{neighbour_lines, start_lines, systems_lines, neighbours_lines}
 use Rattle.afdx_config.specs.Switches.{starts_lines, over_all}
 use Rattle.afdx_config.proofs.AmongOthersLemmas.{admitted-serving}
+use Rattle.afdx_config.proofs.LawfulLinkLemmas.{example-lawful, with-others}
 use Rattle.afdx_police.specs.Arrival.{Arrival, own}
 use Rattle.afdx_police.specs.Rule.{regulation_of}
 use Rattle.afdx_police.specs.Shape.{IsSound}
@@ -64,20 +66,10 @@ is-end name port id partition named low high number part = record {
 
 link-is : (from place jitter : ℕ) → from < 2 → place < 2 → jitter ≤ 1000 → are_apart from (place ∷ []) ≡ true
     → IsLinkUpTo jitter_from_any 2 (record example_link { from = from; to = place ∷ []; jitter_us = jitter })
-link-is from place jitter sends gets low apart = record {
-  vl = (omega arith, omega arith);
-  from = sends;
-  to = (gets, tt);
-  to_count = (omega arith, omega arith);
-  apart = apart;
-  bag_ms = refl;
-  lmin = (omega arith, omega arith);
-  lmax = (omega arith, omega arith);
-  jitter_us = (omega arith, omega (arith, low));
-  latency_us = (omega arith, omega arith);
-  skew_us = (omega arith, omega arith);
-  subs = (omega arith, omega arith);
-}
+link-is from place jitter sends gets low apart =
+    with-others jitter_from_system jitter_from_any 2 (record example_link { from = from; to = place ∷ [] })
+    (example-lawful 2 from place sends gets apart) Byte jitter 11 1000 (omega (arith, low))
+    (omega arith, omega arith) (omega arith, omega arith)
 
 lawful-with : (system other : SystemRow) (l : LinkRow) (ports : List PortRow) → IsSystem 2 system → IsSystem 2 other
     → (system.name ≡ other.name → ⊥) → (system.port ≡ other.port → ⊥) → IsLinkUpTo jitter_from_any 2 l

@@ -10,7 +10,8 @@ use Rattle.afdx_frame.specs.Reading.{BuiltIsComputed}
 use Rattle.afdx_frame.specs.declared.link.Side.{Side}
 use Rattle.afdx_frame.specs.declared.link.Side.TheVariants.{A, B}
 use Rattle.afdx_frame.proofs.ListLemmas.{AllByRecursion-slice_get}
-use Rattle.afdx_config.specs.Lawful.{IsLink, IsLinkUpTo, jitter_from_any}
+use Rattle.afdx_config.proofs.LawfulLinkLemmas.{with-others}
+use Rattle.afdx_config.specs.Lawful.{IsLink, IsLinkUpTo, jitter_from_any, jitter_from_system}
 use Rattle.afdx_config.specs.LawfulStream.{Sending}
 use Rattle.afdx_config.specs.Rows.{LinkRow, Rows}
 use Rattle.afdx_config.specs.SentList.{Message}
@@ -219,22 +220,10 @@ module _ (ss : List NamedRows) (so_far : List SwitchEvent) (r : RowAt) (before :
 
   is-link : IsLink (length t0.systems) seen
   is-link =
-      let one = link-up first first-row in
       let last = link-up r way.row in
-      record {
-        vl = one.vl;
-        from = one.from;
-        to = one.to;
-        to_count = one.to_count;
-        apart = one.apart;
-        bag_ms = one.bag_ms;
-        lmin = one.lmin;
-        lmax = one.lmax;
-        jitter_us = (omega arith, jitter);
-        latency_us = (some, (let least = fast in let most = last.skew_us.1 in omega (arith, least, most)));
-        skew_us = last.skew_us;
-        subs = one.subs;
-      }
+      with-others jitter_from_any jitter_from_system (length t0.systems) first.row (link-up first first-row)
+      first.row.policing first.row.jitter_us sum r.row.skew_us jitter
+      (some, (let least = fast in let most = last.skew_us.1 in omega (arith, least, most))) last.skew_us
 
   module _ (computed : BuiltIsComputed) (messages : List Message) (stream : List Sending)
       (is : IsStreamFrom ss first messages stream)

@@ -25,8 +25,8 @@ pub(crate) fn new_networks(alloc: Global, switches: &Switches) -> Result<Vec<Net
         network.IsUntil n 0) }
 {
     let mut networks = Vec::new(alloc);
-    for place in 0..switches.count() {
-        let tables = switches.tables(SwitchId(place as u8));
+    for place in 0..switches.id_count() {
+        let tables = switches.tables(SwitchId(place));
         networks.push(Network::new(alloc, tables)?)?;
     }
     Ok(networks)

@@ -11,11 +11,9 @@ use Rattle.afdx_law_bounds.specs.Tables.{goes_to, port_of}
 use Rattle.afdx_config.proofs.LookUpLemmas.{each_row-found}
 use Rattle.afdx_config.specs.Lawful.{IsLawfulSwitch}
 use Rattle.afdx_config.specs.Reading.{link_of, system_at_port}
-use Rattle.afdx_config.specs.Rows.{LinkRow, Rows, is_to}
+use Rattle.afdx_config.specs.Rows.{LinkRow, Rows, example_link, is_to}
 use Rattle.afdx_frame.proofs.ListLemmas.{AllByRecursion-push}
 use Rattle.afdx_frame.specs.Layout.{link_named_by}
-use Rattle.afdx_frame.specs.declared.link.Policing.TheVariants.{Byte}
-use Rattle.afdx_frame.specs.declared.link.Priority.TheVariants.{High}
 use Rattle.afdx_frame.specs.declared.link.VlId.{VlId}
 use Rattle.afdx_police.specs.Arrival.{names}
 use Rattle.afdx_input_runs.specs.Joining.{Frame}
@@ -96,21 +94,9 @@ not-eq a b other = by (nat_eq a b) refl
     by false e = e
     by true e = absurd (other (eqb-true a b e))
 
+-- where a place is looked at of which it isn't said yet that a link stands there
 abbrev pub blank : LinkRow
-blank = record {
-  vl = 0;
-  from = 0;
-  to = [];
-  bag_ms = 0;
-  lmin = 0;
-  lmax = 0;
-  jitter_us = 0;
-  priority = High;
-  policing = Byte;
-  latency_us = 0;
-  skew_us = 0;
-  subs = 0;
-}
+blank = example_link
 
 place-other : (t : Rows) (place : ℕ) (l : LinkRow) (vl : ℕ) (o : Option ℕ) → slice_get t.links place ≡ Some l
     → (vl ≡ l.vl → ⊥) → link_of t.links vl ≡ o → is_link o (Some place) ≡ false

@@ -3,10 +3,11 @@ use Rattle.std.proofs.Common.{◌≡◌, ℕ, zero, suc, ◌≤◌, Bool, true, 
 use Rattle.std.specs.Prelude.{Option, Some, None, ◌&&◌, filter, slice_get, slice_index, if◌then◌else◌}
 use Rattle.std.specs.Option.{option_map_or}
 use Rattle.afdx_law_bounds.specs.Tables.{byte_ns_at, goes_to, port_of, rule_of}
-use Rattle.afdx_config.specs.Lawful.{AreDistinct, IsLawfulSwitch, jitter_from_system, triple}
+use Rattle.afdx_config.proofs.LawfulLinkLemmas.{example-lawful, with-others}
+use Rattle.afdx_config.specs.Lawful.{AreDistinct, IsLawfulSwitch, jitter_from_any, jitter_from_system, triple}
 use Rattle.afdx_config.specs.Reading as reading
 use Rattle.afdx_config.specs.Reading.{are_apart, is_name, link_of, system_at_port}
-use Rattle.afdx_config.specs.Rows.{LinkRow, SystemRow, is_to}
+use Rattle.afdx_config.specs.Rows.{LinkRow, SystemRow, example_link, is_to}
 use Rattle.afdx_frame.specs.Register.{number, shift}
 use Rattle.afdx_frame.specs.Sealing.{is_sealed, sequence_of}
 use Rattle.afdx_frame.specs.declared.link.Side.{Side}
@@ -104,20 +105,9 @@ is-lawful = record {
   links = record {
     count = omega arith;
     each = (
-      record {
-        vl = (omega arith, omega arith);
-        from = omega arith;
-        to = (omega arith, tt);
-        to_count = (omega arith, omega arith);
-        apart = refl;
-        bag_ms = refl;
-        lmin = (omega arith, omega arith);
-        lmax = (omega arith, omega arith);
-        jitter_us = (omega arith, omega arith);
-        latency_us = (omega arith, omega arith);
-        skew_us = (omega arith, omega arith);
-        subs = (omega arith, omega arith);
-      },
+      with-others jitter_from_system jitter_from_any 2 example_link
+          (example-lawful 2 0 1 (omega arith) (omega arith) refl) link.policing 500 17 1000 (omega arith)
+          (omega arith, omega arith) (omega arith, omega arith),
       tt,
     );
     identifiers = one-distinct (λ (l : LinkRow). l.vl) link;

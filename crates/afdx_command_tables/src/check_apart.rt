@@ -93,9 +93,9 @@ fn put_cascade_aparts(text: &mut Text, switches: &Switches) -> Result<(), AllocE
     ensures { OnOk result (text_bytes text.new ≡ text_bytes text.old
         ++ cascade.texts_below (cascade.switch_aparts switches.now) (length switches.now)) }
 {
-    let count = switches.count();
+    let count = switches.id_count();
     for k in 0..count {
-        put_switch_aparts(text, switches, SwitchId(k as u8))?;
+        put_switch_aparts(text, switches, SwitchId(k))?;
     }
     Ok(())
 }

@@ -40,9 +40,9 @@ fn put_switches(text: &mut Text, switches: &Switches, margins: bool) -> Result<(
     ensures { OnOk result (text_bytes text.new ≡ text_bytes text.old
         ++ spec.texts_below (spec.switch_lines margins switches.now) (length switches.now)) }
 {
-    let count = switches.count();
+    let count = switches.id_count();
     for k in 0..count {
-        put_switch(text, switches, margins, SwitchId(k as u8))?;
+        put_switch(text, switches, margins, SwitchId(k))?;
     }
     Ok(())
 }
@@ -128,9 +128,9 @@ fn put_ends_of_link(text: &mut Text, switches: &Switches, vl: VlId) -> Result<()
     ensures { OnOk result (text_bytes text.new ≡ text_bytes text.old
         ++ spec.ends_of_link switches.now vl.0) }
 {
-    let count = switches.count();
+    let count = switches.id_count();
     for k in 0..count {
-        put_ends_at(text, switches, vl, SwitchId(k as u8))?;
+        put_ends_at(text, switches, vl, SwitchId(k))?;
     }
     Ok(())
 }
@@ -181,9 +181,9 @@ fn put_ends(text: &mut Text, switches: &Switches) -> Result<(), AllocError>
     ensures { OnOk result (text_bytes text.new ≡ text_bytes text.old
         ++ spec.texts_below (spec.switch_ends switches.now) (length switches.now)) }
 {
-    let count = switches.count();
+    let count = switches.id_count();
     for k in 0..count {
-        put_switch_ends(text, switches, SwitchId(k as u8))?;
+        put_switch_ends(text, switches, SwitchId(k))?;
     }
     Ok(())
 }

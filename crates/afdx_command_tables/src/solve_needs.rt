@@ -223,7 +223,7 @@ fn put_needs_of_switch(
         ++ spec.needs_of_switch switches.now (lists asked.now) switch.0) }
 {
     let (name, tables) = (switches.name(switch), switches.tables(switch));
-    match asked.get(usize::from(switch.0)) {
+    match asked.get(switch.index()) {
         Some(asked) => put_needs(text, name, tables, asked.as_slice()),
         None => put_needs(text, name, tables, &[]),
     }
@@ -239,9 +239,9 @@ pub(crate) fn needs_of_cascade(
         ≡ spec.cascade_needs_text switches.now (lists asked.now)) }
 {
     let mut text = String::new(alloc);
-    let count = switches.count();
+    let count = switches.id_count();
     for k in 0..count {
-        put_needs_of_switch(&mut text, switches, asked, SwitchId(k as u8))?;
+        put_needs_of_switch(&mut text, switches, asked, SwitchId(k))?;
     }
     Ok(text)
 }

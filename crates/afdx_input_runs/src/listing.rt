@@ -21,7 +21,7 @@ fn name_in(described: &Described, switch: u8) -> &str
     ensures { result.now ≡ text.name_in described.entry.now switch }
 {
     match described {
-        Described::Several(switches) if usize::from(switch) < switches.count() => {
+        Described::Several(switches) if switch < switches.id_count() => {
             switches.name(SwitchId(switch))
         }
         Described::Several(_) | Described::One(_) => "",

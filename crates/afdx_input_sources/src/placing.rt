@@ -62,7 +62,7 @@ fn place_among(switches: &Switches, names: &[String], place: TapPoint) -> Option
             at_switch(switches, side, port, switch)
         }
         TapPoint::AtSwitch(side, switch, port) => {
-            if usize::from(switch) < switches.count() {
+            if switch < switches.id_count() {
                 at_switch(switches, side, port, SwitchId(switch))
             } else {
                 None

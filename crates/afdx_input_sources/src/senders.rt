@@ -136,11 +136,10 @@ fn put_all_entries(switches: &Switches, entries: &mut Vec<Option<TapPort>>)
     ensures { (number : ℕ) → known (slice_get entries.new.items number)
         ≡ claims.entry_from 0 (map (λ s. s.rows) switches.now) number }
 {
-    let mut place = switches.count();
+    let mut place = switches.id_count();
     while place > 0 {
         place -= 1;
-        let switch = place as u8;
-        put_entries(switches.tables(SwitchId(switch)), switch, entries);
+        put_entries(switches.tables(SwitchId(place)), place, entries);
     }
 }
 
@@ -185,8 +184,8 @@ fn times_of_all(alloc: Global, switches: &Switches) -> Result<Vec<Vec<Option<u32
     ensures { IfOk result (λ times. HaveTimes times.items (map (λ s. s.rows) switches.now)) }
 {
     let mut times = Vec::new(alloc);
-    for place in 0..switches.count() {
-        let tables = switches.tables(SwitchId(place as u8));
+    for place in 0..switches.id_count() {
+        let tables = switches.tables(SwitchId(place));
         let of_switch = byte_times(alloc, tables)?;
         times.push(of_switch)?;
     }

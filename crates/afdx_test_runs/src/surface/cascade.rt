@@ -84,6 +84,14 @@ fn is_second(switches: &Switches) -> bool {
     name == "aft" && port == Some((SwitchId(0), 24)) && way == Some(35)
 }
 
+/// How many switches there are, as identities count, and the place of the second one.
+fn ids(switches: &Switches) -> (u8, usize) {
+    let count: u8 = switches.id_count();
+    let second: SwitchId = SwitchId::nth(1);
+    let place: usize = second.index();
+    (count, place)
+}
+
 #[test]
 fn cascade(rt: HostRuntime) -> Result<(), Fail> {
     let switches = switches_of(rt.alloc()).map_err(|_| "two switches")?;
@@ -92,6 +100,7 @@ fn cascade(rt: HostRuntime) -> Result<(), Fail> {
         found(&switches),
         (aft, Some((SwitchId(1), SystemId(0))), fwd),
     )?;
+    equal(ids(&switches), (2, 1))?;
     equal(is_second(&switches), true)?;
     equal(all_cascade_faults(rt.alloc(), &switches)?.len(), 0)?;
     equal(answer(switches), Ok(2))

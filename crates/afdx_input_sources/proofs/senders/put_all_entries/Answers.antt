@@ -7,13 +7,13 @@ use Rattle.afdx_input_sources.proofs.senders.put_all_entries.Goals as goal
 
 pub loop-place-init : goal.loop-place-init
 loop-place-init c =
-    let all = c.count-place.ensures.count in (
+    let all = c.id_count-place.ensures.count in (
       c.requires.room,
       omega (arith, all),
       λ number. c.requires.none number
-          ∙ sym (ap (λ (rest : List NamedRows). entry_from c.count-place.result (map (λ s. s.rows) rest) number)
+          ∙ sym (ap (λ (rest : List NamedRows). entry_from c.id_count-place.result (map (λ s. s.rows) rest) number)
           (ap (λ n. drop n c.args.switches.now) all ∙ drop-length c.args.switches.now)
-          ∙ no-entry c.count-place.result number),
+          ∙ no-entry c.id_count-place.result number),
     )
 
 pub loop-place-preserved : goal.loop-place-preserved

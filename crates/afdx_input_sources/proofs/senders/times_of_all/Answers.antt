@@ -18,4 +18,4 @@ pub returns : goal.returns
 returns c =
     let i = c.loop-place.invariant in
     have-all c.loop-place.times.items c.args.switches.now
-    (omega (arith, i.0, i.1, c.loop-place-test.false, c.count-place-end.ensures.count)) i.2
+    (omega (arith, i.0, i.1, c.loop-place-test.false, c.id_count-place-end.ensures.count)) i.2
