@@ -51,7 +51,13 @@ IN_SWITCH = "A switch of the configuration has a fault: "
 OTHER_VALUES = {"switch's system": ["port"], "switch's link": ["from", "to", "jitter_us"]}
 # what no line of `conform` has
 NEVER_FOUND = [("passed", "bad-address"), ("passed", "unknown-link"), ("passed", "no-arrival"),
-               ("strange", "wrong-port"), ("strange", "over-rate")]
+               ("strange", "wrong-port"), ("strange", "over-rate"), ("strange", "not-its-link"),
+               ("unlawful", "bad-address"), ("unlawful", "wrong-port"), ("unlawful", "over-rate"),
+               ("unlawful", "not-its-port"), ("unlawful", "redundant")]
+# the words of a frame that isn't lawful by itself, in their order
+UNLAWFUL = ["too-short", "too-long", "bad-fcs", "unknown-link", "not-its-link", "over-lmax",
+            "under-lmin", "not-its-address", "not-ipv4", "bad-ip-header", "fragment", "not-udp",
+            "bad-udp-length"]
 # names of faults that an earlier list has too
 EARLIER = ["recording TimeBack", "recording TimeTooLarge", "config NoSuchSystem"]
 
@@ -93,6 +99,9 @@ def wanted_lines(rows: list[Row]) -> Wanted:
                for row in of_kind(rows, "drop") if row.word not in ("bad-address", "unknown-link")]
     wanted += [(f"strange 7 {side} 3 {row.word}", ["nothing explains it", row.text])
                for side in "AB" for row in of_kind(rows, "drop")[:5] + of_kind(rows, "strange")]
+    drops = {row.word: row for row in of_kind(rows, "drop", "unread", "unlawful")}
+    wanted += [(f"unlawful 7 {side} 3 {word}", ["isn't lawful by itself", drops[word].text])
+               for side in "AB" for word in UNLAWFUL]
     wanted += [(line.replace("list ", f"list {role} "), [row.text]) for role in ("came", "left")
                for row in of_kind(rows, "fault") if row.word.startswith("list ")
                for line in examples_of(row.word)]

@@ -18,6 +18,7 @@ use Rattle.afdx_input_sources.specs.declared.skipped.TheConstants.{SKIPPED}
 use Rattle.afdx_conform.specs.declared.strangeness.TheConstants.{STRANGE_REASONS}
 use Rattle.afdx_input_lines.specs.declared.fault.TheConstants.{RUN_FAULTS}
 use Rattle.afdx_input_lines.specs.declared.recording_fault.TheConstants.{RECORDING_FAULTS}
+use Rattle.afdx_text.specs.declared.sender_words.TheConstants.{FLAW_REASONS, NO_SOURCE_REASONS}
 use Rattle.afdx_explain.specs.Forms.{text_among, row_among, formed_row, formed_among}
 use Rattle.afdx_explain.specs.Forms.{named_among, named_row}
 use Rattle.afdx_explain.specs.declared.conform_lines.TheConstants.{CONFORM_LINES}
@@ -171,13 +172,50 @@ passed line =
     row_among (codes "passed n A|B n ?")
     (map (λ row. (row.1.now, row.2.now)) (drop 5 REASONS)) line
 
+-- of a system as a sender: why a frame isn't lawful by itself, for what a switch or a receiver
+-- would drop it, or in a word of its own
+unfoldable pub unlawful_damaged : List ℕ → Option (List ℕ)
+unlawful_damaged line =
+    row_among (codes "unlawful n A|B n ?")
+    (map (λ row. (row.1.now, row.2.now)) (take 3 REASONS)) line
+
+unfoldable pub unlawful_link : List ℕ → Option (List ℕ)
+unlawful_link line =
+    row_among (codes "unlawful n A|B n ?")
+    (map (λ row. (row.1.now, row.2.now)) (drop 4 (take 5 REASONS))) line
+
+unfoldable pub unlawful_length : List ℕ → Option (List ℕ)
+unlawful_length line =
+    row_among (codes "unlawful n A|B n ?")
+    (map (λ row. (row.1.now, row.2.now)) (drop 6 (take 8 REASONS))) line
+
+unfoldable pub unlawful_datagram : List ℕ → Option (List ℕ)
+unlawful_datagram line =
+    row_among (codes "unlawful n A|B n ?") (map (λ row. (row.1.now, row.2.now)) IP_FAULTS) line
+
+unfoldable pub unlawful_address : List ℕ → Option (List ℕ)
+unlawful_address line =
+    row_among (codes "?\nunlawful n A|B n ?")
+    (map (λ row. (row.1.now, row.2.now)) FLAW_REASONS) line
+
+unfoldable pub unlawful_source : List ℕ → Option (List ℕ)
+unlawful_source line =
+    row_among (codes "?\nunlawful n A|B n ?")
+    (map (λ row. (row.1.now, row.2.now)) NO_SOURCE_REASONS) line
+
+unfoldable pub unlawful : List ℕ → Option (List ℕ)
+unlawful line =
+    or_else (unlawful_damaged line) (or_else (unlawful_link line)
+    (or_else (unlawful_length line) (or_else (unlawful_datagram line)
+    (or_else (unlawful_address line) (unlawful_source line)))))
+
 unfoldable pub judged : List ℕ → Option (List ℕ)
 judged line = text_among (map (λ entry. (entry.0.now, entry.1.now)) CONFORM_LINES) line
 
 unfoldable pub found : List ℕ → Option (List ℕ)
 found line =
     or_else (strange_shape line) (or_else (strange line) (or_else (passed_damaged line)
-    (or_else (passed line) (judged line))))
+    (or_else (passed line) (or_else (unlawful line) (judged line)))))
 
 unfoldable pub told : List ℕ → Option (List ℕ)
 told line = text_among (map (λ entry. (entry.0.now, entry.1.now)) LINES) line

@@ -3,7 +3,7 @@
 use crate::entry::Entry;
 
 /// Lines of `conform`, and the first words of those that have a word of a table at their end.
-pub const CONFORM_LINES: [Entry; 9] = [
+pub const CONFORM_LINES: [Entry; 15] = [
     (
         "strange",
         "\
@@ -55,6 +55,66 @@ With --explain-drops, of several switches: port is a switch's name that is all d
 frame came NS ns too early for its link's account.",
     ),
     (
+        "unlawful",
+        "\
+unlawful n side port WORD: the system at that port sent frame n of CAME, which isn't lawful by
+itself.
+n is its line, of a recording its number. WORD says why; 'afdx explain --list' has each.",
+    ),
+    (
+        "\
+number
+number n A|B n n",
+        "\
+number n side port Q: the system at that port sent frame n of CAME with another sequence number
+than Q, the one behind that of the frame before it of its link there; the first one has 0.
+If it is so once for each link and side, the recorders began in the middle: --from. If the frame has
+0, its system was reset: two runs, --until and --from. A recorder or a mirror that loses frames
+makes such lines, and 'single' on the other network: record at taps. If all frames have it, and
+'differs' too, they have trailers: editcap -L -C -12 and --fcs no.",
+    ),
+    (
+        "\
+soon
+soon n A|B n n",
+        "\
+soon n side port NS: the system at that port sent frame n of CAME NS ns too soon after those of its
+link before it there, by bag_ms and jitter_us.
+If few frames do, by less than 1000, stamps are cut to us: --slack of half a us. A mirror that
+queues makes such lines: record at the system's cable. A host without priority in real time is held
+up, and one that catches up after a pause sends so: then it is as it is said.",
+    ),
+    (
+        "\
+differs
+differs n A|B n",
+        "\
+differs n side port: the system at that port sent frame n of CAME, which isn't the same as its copy
+on the other network.
+The byte of the network in the source address and the check sequence may differ, all else may not.
+If all frames have it, and 'number' too, they have trailers: editcap -L -C -12 and --fcs no.",
+    ),
+    (
+        "apart n A|B n n",
+        "\
+apart n side port NS: the system at that port sent frame n of CAME NS ns later than it may behind
+its copy on the other network: a receiver may take both.
+If nearly all frames have it, by about the same, two recorders' clocks are apart: use one recorder,
+or --slack. In tables by 'afdx solve' skew_us leaves the time on the lines alone: give a greater
+skew_us. A host without priority in real time is held up between its two networks.",
+    ),
+    (
+        "\
+single
+single n A|B n",
+        "\
+single n side port: the system at that port sent frame n of CAME, and no copy of it came on the
+other network within the greatest skew_us that there is.
+If many are at the begin or at the end, recorders began or stopped apart: --from of a second and
+more, --until before the first one stopped. If all frames have it, two recorders' clocks are over
+100 ms apart. A recorder or a mirror that loses frames makes such lines.",
+    ),
+    (
         "\
 unsure
 unsure n A|B n",
@@ -67,7 +127,8 @@ bytes.",
     (
         "\
 conforms
-conforms explained n open n uncertain n left-out n unseen n idle n",
+conforms explained n open n uncertain n left-out n unseen n idle n
+conforms explained n open n uncertain n left-out n unseen n idle n sent n cut n alone n",
         "\
 conforms: each frame that left is explained, and each that had to leave did.
 explained: frames that left rightly; open: arrivals whose frames may come behind the end;
@@ -78,12 +139,16 @@ that are judged, and of which no frame is explained: nothing was shown of them.
 If uncertain is near explained, nothing was shown of the accounts: --slack is near jitter_us.
 Record with stamps of hardware, or test with greater bag_ms. Of what is unseen nothing is said:
 record these ports too, and name them by --interface and --left. With --exercised it is undecided
-where one is idle: send on each link.",
+where one is idle: send on each link.
+Where senders are judged: sent: frames of systems of which nothing is found; cut: frames whose copy
+on the other network may have been sent before the recordings began or after they ended; alone:
+links that weren't recorded on both networks, so that their copies aren't compared.",
     ),
     (
         "\
 deviates
-deviates n explained n open n uncertain n left-out n unseen n idle n",
+deviates n explained n open n uncertain n left-out n unseen n idle n
+deviates n explained n open n uncertain n left-out n unseen n idle n sent n cut n alone n",
         "\
 deviates D: there are D lines above of what the switch did wrong. Only the first of a link at an
 output port is sure to name the cause.
@@ -94,7 +159,8 @@ conforms.",
     (
         "\
 undecided
-undecided explained n open n uncertain n left-out n unseen n idle n",
+undecided explained n open n uncertain n left-out n unseen n idle n
+undecided explained n open n uncertain n left-out n unseen n idle n sent n cut n alone n",
         "\
 undecided: nothing wrong was found, but no frame was explained either, or a line 'unsure' stands
 above; or --exercised was given, and of a link at an output port no frame was explained: idle.

@@ -12,6 +12,7 @@ use crate::faults::FAULTS;
 use crate::keys::key;
 use crate::kinds::KINDS;
 use crate::lines::LINES;
+use crate::unlawful::unlawful;
 use afdx_admit::{ADMISSION, CASCADE_ADMISSION};
 use afdx_config::CONFIG_FAULTS;
 use afdx_conform::STRANGE_REASONS;
@@ -165,7 +166,7 @@ fn judged(line: &[u8]) -> Option<&'static str>
     text_among(&CONFORM_LINES, line)
 }
 
-/// What is found at a switch that was recorded.
+/// What is found at a switch that was recorded, or of a system that sent to it.
 #[tactic(auto, unfolding(crate::specs::Explained::found))]
 fn found(line: &[u8]) -> Option<&'static str>
     ensures { option_copied result ≡ spec.found line.now }
@@ -180,6 +181,9 @@ fn found(line: &[u8]) -> Option<&'static str>
         return Some(text);
     }
     if let Some(text) = passed(line) {
+        return Some(text);
+    }
+    if let Some(text) = unlawful(line) {
         return Some(text);
     }
     judged(line)

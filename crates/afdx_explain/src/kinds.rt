@@ -3,7 +3,7 @@
 use crate::entry::Entry;
 
 /// What the lines of a kind have in common.
-pub const KINDS: [Entry; 24] = [
+pub const KINDS: [Entry; 25] = [
     (
         "list * n",
         "\
@@ -174,6 +174,12 @@ and nothing explains it.",
         "\
 The frame of this line of CAME, of a recording of this number, left that output port, on this side,
 though the switch had to drop it; here is why.",
+    ),
+    (
+        "unlawful n A|B n *",
+        "\
+The system at that port, on this side, sent the frame of this line of CAME, of a recording of this
+number, which isn't lawful by itself; here is why.",
     ),
     (
         "# n *",

@@ -11,6 +11,7 @@ mod forms;
 mod keys;
 mod kinds;
 mod lines;
+mod unlawful;
 
 pub use conform_lines::CONFORM_LINES;
 pub use entry::Entry;

@@ -13,6 +13,7 @@ use afdx_input_sources::SKIPPED;
 use afdx_police::REASONS;
 use afdx_receive::DROP_REASONS;
 use afdx_send::SEND_FAULTS;
+use afdx_text::{FLAW_REASONS, NO_SOURCE_REASONS};
 use std::io;
 
 /// What takes the rows of the lists.
@@ -86,6 +87,12 @@ fn refusals<H: Hearer>(to: &mut H) -> Result<(), H::Error> {
 /// Why a frame is strange that left.
 fn strange<H: Hearer>(to: &mut H) -> Result<(), H::Error> {
     words(to, "strange", &STRANGE_REASONS)
+}
+
+/// Why a frame that a system sent isn't lawful.
+fn unlawful<H: Hearer>(to: &mut H) -> Result<(), H::Error> {
+    words(to, "unlawful", &FLAW_REASONS)?;
+    words(to, "unlawful", &NO_SOURCE_REASONS)
 }
 
 /// Why a number of a recording is skipped.
@@ -182,6 +189,7 @@ pub(crate) fn hear_lists<H: Hearer>(to: &mut H) -> Result<(), H::Error> {
     no_datagrams(to)?;
     refusals(to)?;
     strange(to)?;
+    unlawful(to)?;
     skipped(to)?;
     admission_lines(to)?;
     config_faults(to)?;
