@@ -4,6 +4,7 @@ ghost use Rattle.std.specs.Prelude.{◌≡◌, ◌||◌, ◌⊎◌, true, false,
 ghost use Rattle.afdx_command_conform.specs.Commands as spec;
 ghost use Rattle.afdx_command_conform.specs.Commands.{EndsAs, IsJudgedOr, IsRun, IsToldNoSwitch};
 ghost use Rattle.afdx_command_conform.specs.Ran.{Answers};
+ghost use Rattle.afdx_input_runs.specs.Arrivals.{TakesFrames};
 
 use crate::choices::Choices;
 use crate::run::{RunCounts, run_conform};
@@ -112,7 +113,7 @@ pub fn conform<P: Tapping + Drop, A: RunInput<P, Seen>, O: Sink, E: Write>(
     // read, or has no such switch: then nothing is read and nothing is written.
     ensures judges { IsJudgedOr E.contents question.entry errors.old errors.new result
         (λ t answer. IsRun (A.ended inputs.new) (A.failed inputs.new) (O.failed output.new) answer
-        × Answers (A.known inputs.old) (A.Takes options) inputs.new t (P.tapped options)
+        × Answers (A.known inputs.old) (A.Takes TakesFrames options) inputs.new t (P.tapped options)
         question.entry.choices.now (O.written output.old) (O.written output.new) answer)
         ((inputs.new ≡ inputs.old) × (output.new ≡ output.old)) }
 {

@@ -5,6 +5,7 @@ ghost use Rattle.afdx_command_conform.specs.ChoicesOf.{choices_of};
 ghost use Rattle.afdx_command_conform.specs.Ran as spec;
 ghost use Rattle.afdx_command_conform.specs.Ran.{ConformAnswers};
 ghost use Rattle.afdx_input_lines.specs.Calls.{is_failed_read, is_failed_write};
+ghost use Rattle.afdx_input_runs.specs.Arrivals.{TakesFrames};
 ghost use Rattle.afdx_input_sources.specs.Claims.{ports_of_one};
 
 use crate::choices::Choices;
@@ -12,8 +13,8 @@ use crate::judging::JudgingRun;
 use crate::totals::Totals;
 use afdx_config::Tables;
 use afdx_input_lines::{RecordingFault, RunFault};
-use afdx_input_runs::{RunInput, Seen, SeenCount, Tapping};
-use afdx_input_sources::UnsaidPort;
+use afdx_input_runs::{Reading, RunInput, Seen, SeenCount, Tapping};
+use afdx_input_sources::{FrameLines, UnsaidPort};
 use afdx_text::{OutLine, Sink};
 use std::alloc::Global;
 
@@ -75,16 +76,21 @@ pub fn run_conform<P: Tapping + Drop, A: RunInput<P, Seen>, O: Sink>(
 
     // Where the bytes are known: what is answered and written for the frames that it takes.
     ensures answer { IfSome (A.known inputs.old) (λ bytes. ConformAnswers
-        (A.Takes options (ports_of_one tables.now) bytes inputs.new)
+        (A.Takes TakesFrames options (ports_of_one tables.now) bytes inputs.new)
         (tables.now, choices_of (P.tapped options) choices.now) choices.now.is_lossy
         (O.written output.old) (O.written output.new) result) }
 {
-    // (a law of the inputs: where memory is wanting at once nothing is taken)
+    // (laws of the inputs: before they are asked for anything they haven't failed; where memory is
+    // wanting at once nothing is taken)
     A::starts();
+    A::takes_none::<FrameLines>();
     let taps = options.taps();
     let mut judging = JudgingRun::new(alloc, tables, choices, &taps)?;
-    let unsaid = UnsaidPort::OfSender(tables);
-    let count = inputs.tell_all(alloc, options, unsaid, &mut judging, output)?;
+    let reading = Reading {
+        unsaid: UnsaidPort::OfSender(tables),
+        form: FrameLines,
+    };
+    let count = inputs.tell_all(alloc, options, reading, &mut judging, output)?;
     let totals = judging.totals();
     if let Some(fault) = fault_behind(choices.is_lossy, &count) {
         return Err(fault);

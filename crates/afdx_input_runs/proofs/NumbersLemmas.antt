@@ -1,26 +1,19 @@
--- Of the lines that a machine was handed: what a run took, how much was told of them, and that the
--- times of their arrivals don't go back.
-use Rattle.std.proofs.Common.{◌≡◌, ℕ, List, [], ap, refl, sym, append-nil}
+-- Of the lines that a machine was handed: what a run took, and how much was told of them.
+use Rattle.std.proofs.Common.{ℕ, List, [], refl, sym, append-nil}
 use Rattle.std.proofs.Common.{Option, Some, None, Result, Ok, Err, IfSome, ◌⊎◌}
 use Rattle.afdx_input_lines.specs.declared.fault.RunFault.{RunFault}
 use Rattle.afdx_input_lines.specs.declared.fault.RunFault.TheVariants as run
 use Rattle.afdx_input_sources.specs.Causes.{Cause, cause_of, FailedRead, FailedWrite, NoMemory, BadInput}
 use Rattle.afdx_input_sources.specs.Becoming.{Options}
 use Rattle.afdx_input_sources.specs.Claims.{Ports}
-use Rattle.afdx_input_sources.specs.Items.{arrivals}
-use Rattle.afdx_input_sources.specs.Laws.{AreInOrder}
-use Rattle.afdx_input_sources.specs.NumberLines.{Lines, arrivals_listed}
-use Rattle.afdx_input_sources.specs.Taking.{Taken, AreCutOff, arrivals_in, taken_of_bytes}
+use Rattle.afdx_input_sources.specs.NumberLines.{Lines}
+use Rattle.afdx_input_sources.specs.Taking.{Taken, AreCutOff, taken_of_bytes}
 use Rattle.afdx_input_sources.specs.declared.counts.Tally.{Tally}
-use Rattle.afdx_input_runs.specs.Arrivals.{ByCause, TookAndTold, TakesRecorded}
+use Rattle.afdx_input_runs.specs.Arrivals.{ByCause, TookAndTold}
 use Rattle.afdx_input_runs.specs.ListText.{lines_themselves}
-use Rattle.afdx_input_runs.specs.Numbers.{ArrivalsGoOn, StopsTaking, TakesLines}
-use Rattle.afdx_input_runs.specs.Over.{AreFirstLines, both}
+use Rattle.afdx_input_runs.specs.Over.{AreFirstLines, StopsTaking, TakesLines, both}
 use Rattle.afdx_input_runs.specs.RecordingRun.{IfBoth}
-use Rattle.afdx_input_runs.specs.TakenRun.{FirstAreBegun, FirstAreTold, StopsAs, TakenAnswers, TakenStops}
-use Rattle.afdx_input_runs.proofs.ArrivalsLemmas.{recorded-ordered}
-use Rattle.afdx_input_runs.proofs.TakenLemmas.{first-arrivals}
-use Rattle.afdx_input_runs.proofs.TookLemmas.{counted}
+use Rattle.afdx_input_runs.specs.TakenRun.{FirstAreBegun, TakenAnswers, TakenStops}
 
 -- ---- what was told of them
 
@@ -68,40 +61,6 @@ module _ (done told begins : Lines → Type 0) where
   two-took whole AreCut None b r h = tt
   two-took whole AreCut (Some a) None r h = tt
   two-took whole AreCut (Some a) (Some b) r h = lines-took (whole a b) (AreCut a b) r h
-
--- ---- their times
-
-module _ (whole : Taken) (AreCut : Lines → Type 0) (lines : Lines) where
-  same : whole.lines ≡ lines → arrivals_in whole ≡ arrivals (arrivals_listed lines)
-  same e = ap (λ (lines : Lines). arrivals (arrivals_listed lines)) e
-
-  begun : AreFirstLines whole lines → FirstAreTold whole (λ all. all ≡ arrivals (arrivals_listed lines))
-  begun (later, parts) = record {
-    past = arrivals (arrivals_listed lines);
-    later = arrivals (arrivals_listed later);
-    parts = first-arrivals whole later lines parts;
-    are_told = refl;
-  }
-
-  stops : (fault : RunFault) (cause : Cause) → StopsTaking whole AreCut lines fault cause
-      → StopsAs whole AreCut (λ all. all ≡ arrivals (arrivals_listed lines))
-      (λ all. all ≡ arrivals (arrivals_listed lines)) fault cause
-  stops fault FailedRead h = (lines, h, refl)
-  stops fault FailedWrite h = begun h
-  stops fault NoMemory h = begun h
-  stops fault BadInput h = (h.0, same h.1)
-
-  -- their arrivals are those that a run takes
-  arrivals-too : (r : Result Tally RunFault) → TakesLines whole AreCut lines r
-      → TakesRecorded whole AreCut (arrivals (arrivals_listed lines)) (counted r)
-  arrivals-too (Ok tally) h = record { over = h.0.over; are_told = same h.0.lines_are; tally_is = h.1 }
-  arrivals-too (Err fault) h = stops fault (cause_of fault) h
-
-  pub lines-ordered : AreInOrder (arrivals_in whole)
-      → ((lines : Lines) → AreCut lines → AreInOrder (arrivals (arrivals_listed lines)))
-      → (r : Result Tally RunFault) → TakesLines whole AreCut lines r → ArrivalsGoOn lines
-  lines-ordered ordered cut r h =
-      recorded-ordered whole AreCut ordered cut (arrivals (arrivals_listed lines)) (counted r) (arrivals-too r h)
 
 -- ---- of nothing
 

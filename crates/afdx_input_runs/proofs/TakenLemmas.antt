@@ -179,26 +179,3 @@ answers-same a b AreCut AreCut' items_of done told begins r e f h =
         → TakenAnswers a AreCut' items_of done told begins r
     by (Ok tally) h = record { over = h.over; are_told = h.are_told; tally_is = h.tally_is }
     by (Err fault) h = by-cause fault (cause_of fault) h
-
--- what was told says more than that
-module _ {H : Type 0} (whole : Taken) (AreCut : Lines → Type 0) (items_of : Lines → List (Item H))
-    (done told told' begins : List (Item H) → Type 0) (says : (past : List (Item H)) → told past → told' past) where
-  told-some : FirstAreBegun whole AreCut items_of done told begins
-      → FirstAreBegun whole AreCut items_of done told' begins
-  told-some s = record { past = s.past; later = s.later; parts = s.parts; begun = of s.begun }
-    where
-      of : told (items_of s.past) ⊎ begins (items_of s.past) → told' (items_of s.past) ⊎ begins (items_of s.past)
-      of (inl h) = inl (says (items_of s.past) h)
-      of (inr h) = inr h
-
-  told-by : (fault : RunFault) (cause : Cause) → TakenStops whole AreCut items_of done told begins fault cause
-      → TakenStops whole AreCut items_of done told' begins fault cause
-  told-by fault FailedRead h = (h.0, h.1, says (items_of h.0) h.2)
-  told-by fault FailedWrite h = told-some h
-  told-by fault NoMemory h = told-some h
-  told-by fault BadInput h = (h.0, says (items_of whole.lines) h.1)
-
-  pub answers-say : (r : Result Tally RunFault) → TakenAnswers whole AreCut items_of done told begins r
-      → TakenAnswers whole AreCut items_of done told' begins r
-  answers-say (Ok tally) h = record { over = h.over; are_told = h.are_told; tally_is = h.tally_is }
-  answers-say (Err fault) h = told-by fault (cause_of fault) h

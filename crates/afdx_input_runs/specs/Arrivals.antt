@@ -1,29 +1,32 @@
 -- What a run takes of its input, whatever that is, and how much is told of it.
-use Rattle.std.specs.Prelude.{ℕ, ◌≡◌, ◌≤◌, ◌⊎◌, Bool, true, false, List, [], ◌∷◌, Option, Some}
+use Rattle.std.specs.Prelude.{ℕ, ◌≡◌, ◌≤◌, ◌⊎◌, Bool, true, false, List, [], ◌∷◌, map, Option, Some}
 use Rattle.std.specs.Prelude.{Result, Ok, Err}
 use Rattle.afdx_frame.specs.declared.by_side.BySide.{BySide}
 use Rattle.afdx_police.specs.Arrival.{Arrival}
+use Rattle.afdx_input_lines.specs.FrameLines.{listed_frame}
 use Rattle.afdx_input_lines.specs.Lines.{lines_of}
 use Rattle.afdx_input_lines.specs.Peeking.{is_untouched, left_in}
 use Rattle.afdx_input_lines.specs.Watching.{calls_of, device_of, has_ended, has_failed}
 use Rattle.afdx_input_lines.specs.declared.fault.RunFault.{RunFault}
+use Rattle.afdx_input_lines.specs.declared.frame_line.Heading.{Heading}
 use Rattle.afdx_input_lines.specs.declared.peeked.Peeked.{Peeked}
 use Rattle.afdx_input_lines.specs.declared.watched.Watched.{Watched}
 use Rattle.afdx_input_sources.specs.Causes.{Cause, cause_of, FailedWrite, NoMemory}
 use Rattle.afdx_input_sources.specs.Engine.{Item}
+use Rattle.afdx_input_sources.specs.Items.{thing_of}
 use Rattle.afdx_input_sources.specs.Listed.{frames}
 use Rattle.afdx_input_sources.specs.ListRun.{IsDone}
-use Rattle.afdx_input_sources.specs.Lists.{latest_in}
-use Rattle.afdx_input_sources.specs.Stops.{StopsAt}
+use Rattle.afdx_input_sources.specs.Lists.{Kind, latest_in}
+use Rattle.afdx_input_sources.specs.Stops.{StopsIn}
 use Rattle.afdx_input_sources.specs.Becoming.{Options, options_of}
 use Rattle.afdx_input_sources.specs.Claims.{Ports}
-use Rattle.afdx_input_sources.specs.NumberLines.{Lines}
+use Rattle.afdx_input_sources.specs.NumberLines.{AreItems, Lines, arrivals_listed}
 use Rattle.afdx_input_sources.specs.Taking.{Taken, AreCutOff, taken_of_bytes}
 use Rattle.afdx_input_sources.specs.declared.becoming.RecordingOptions.{RecordingOptions}
 use Rattle.afdx_input_sources.specs.declared.pair_options.PairOptions.{PairOptions}
 use Rattle.afdx_input_runs.specs.InputRun.{is_read_recorded, IsAskedFew}
 use Rattle.afdx_input_runs.specs.RecordingRun.{AreCutOffInPair, IsAskedOnceFor, taken_of_pair}
-use Rattle.afdx_input_runs.specs.TakenRun.{IsOver, StopsTaken}
+use Rattle.afdx_input_runs.specs.Over.{TakesLines}
 use Rattle.afdx_input_runs.specs.declared.input_run.InputCount.{InputCount}
 use Rattle.afdx_input_runs.specs.declared.input_run.InputCount.TheVariants as count
 
@@ -46,44 +49,68 @@ TookAndTold {H} takes answer done told begins =
     (items : List (Item H)) × takes items answer
     × By answer (done items) (told items) (told items ⊎ begins items)
 
--- ---- with this answer a run has taken these arrivals
+-- ---- what is taken of a list
+
+-- with this answer a run has taken these items of a list of these bytes, after which its input has
+-- `rest`
+abbrev pub ListTaking : Type 1
+ListTaking =
+    List ℕ → (rest : Option (List ℕ)) → List (Item Heading) → Result ℕ RunFault → Type 0
+
+-- so it is with lists of some kind, of whose lines an item says this
+abbrev pub TakesKind : {Y X : Type 0} → Kind Y X → (said : Item Heading → X) → List ℕ →
+    (rest : Option (List ℕ)) → List (Item Heading) → Result ℕ RunFault → Type 0
+TakesKind k said bytes rest past (Ok n) =
+    IsDone k (λ all. all ≡ map said past) n (lines_of bytes)
+TakesKind k said bytes rest past (Err fault) =
+    StopsIn k (λ all. all ≡ map said past) (λ all. all ≡ map said past) bytes rest fault
+
+-- with lists whose lines have a form
+abbrev pub TakesForm : {F Y X : Type 0} → (F → Kind Y X) → (says_of : Heading → List ℕ → Y) →
+    F → ListTaking
+TakesForm kind says_of form = TakesKind (kind form) (thing_of (kind form) says_of)
+
+-- with lists of frames of one switch
+abbrev pub TakesFrames : ListTaking
+TakesFrames = TakesKind frames (thing_of frames listed_frame)
+
+-- ---- with this answer a run has taken the arrivals of these items
 
 -- of the whole `whole` of recordings; `AreCut` says what was read until a read failed
-abbrev pub TakesRecorded : (whole : Taken) → (AreCut : Lines → Type 0) → List Arrival →
+abbrev pub TakesRecorded : (whole : Taken) → (AreCut : Lines → Type 0) → List (Item Heading) →
     Result InputCount RunFault → Type 0
-TakesRecorded whole AreCut past (Ok (count.Recorded tally)) = IsOver whole (λ all. all ≡ past) tally
+TakesRecorded whole AreCut past (Ok (count.Recorded tally)) =
+    AreItems arrivals_listed (λ lines. TakesLines whole AreCut lines (Ok tally)) past
 TakesRecorded whole AreCut past (Ok (count.Lines n)) = ⊥
 TakesRecorded whole AreCut past (Err fault) =
-    StopsTaken whole AreCut (λ all. all ≡ past) (λ all. all ≡ past) fault
+    AreItems arrivals_listed (λ lines. TakesLines whole AreCut lines (Err fault)) past
 
--- of a list of these bytes, after which the input has `rest`
-abbrev pub TakesListed : List ℕ → (rest : Option (List ℕ)) → List Arrival →
-    Result InputCount RunFault → Type 0
-TakesListed bytes rest past (Ok (count.Lines n)) =
-    IsDone frames (λ all. all ≡ past) n (lines_of bytes)
-TakesListed bytes rest past (Ok (count.Recorded tally)) = ⊥
-TakesListed bytes rest past (Err fault) =
-    StopsAt (λ all. all ≡ past) (λ all. all ≡ past) bytes rest fault
+-- of a list of which this is taken
+abbrev pub TakesListed : (taken : Result ℕ RunFault → Type 0) → Result InputCount RunFault → Type 0
+TakesListed taken (Ok (count.Lines n)) = taken (Ok n)
+TakesListed taken (Ok (count.Recorded tally)) = ⊥
+TakesListed taken (Err fault) = taken (Err fault)
 
--- of an input of these bytes: a recording (true), or a list
-abbrev pub TakesAs : Bool → Options → Ports → List ℕ → (rest : Option (List ℕ)) → List Arrival →
-    Result InputCount RunFault → Type 0
-TakesAs true options ports bytes rest past answer =
+-- of an input of these bytes: a recording (true), or a list, of which `listed` is taken
+abbrev pub TakesAs : (listed : ListTaking) → Bool → Options → Ports → List ℕ →
+    (rest : Option (List ℕ)) → List (Item Heading) → Result InputCount RunFault → Type 0
+TakesAs listed true options ports bytes rest past answer =
     TakesRecorded (taken_of_bytes options ports bytes) (AreCutOff options ports bytes rest)
     past answer
-TakesAs false options ports bytes rest past answer = TakesListed bytes rest past answer
+TakesAs listed false options ports bytes rest past answer =
+    TakesListed (listed bytes rest past) answer
 
 module _ {R : Type 0} (remaining : R → Option (List ℕ)) where
   -- so its first bytes decide
-  abbrev pub TakesOne : RecordingOptions → Ports → List ℕ → (rest : Watched (Peeked R)) →
-      List Arrival → Result InputCount RunFault → Type 0
-  TakesOne options ports bytes rest past answer =
-      TakesAs (is_read_recorded options (Some bytes)) (options_of options) ports bytes
+  abbrev pub TakesOne : (listed : ListTaking) → RecordingOptions → Ports → List ℕ →
+      (rest : Watched (Peeked R)) → List (Item Heading) → Result InputCount RunFault → Type 0
+  TakesOne listed options ports bytes rest past answer =
+      TakesAs listed (is_read_recorded options (Some bytes)) (options_of options) ports bytes
       (left_in remaining (device_of rest)) past answer
 
   -- of two recordings of these bytes
   abbrev pub TakesTwo : PairOptions → Ports → (both : List ℕ × List ℕ) →
-      (rest : BySide (Watched R)) → List Arrival → Result InputCount RunFault → Type 0
+      (rest : BySide (Watched R)) → List (Item Heading) → Result InputCount RunFault → Type 0
   TakesTwo options ports both rest past answer =
       TakesRecorded (taken_of_pair options ports both.0 both.1)
       (AreCutOffInPair options ports remaining both.0 both.1 rest) past answer

@@ -57,19 +57,22 @@ module _ {Said Thing : Type 0} (kind : Kind Said Thing) (thing : Item Heading �
 
 -- an item can come of it: a line of its form says it, or it is a frame that came in as its options
 -- say, and else its ports
-abbrev pub CanCome : {F : Type 0} → Reading F → (says : F → Item Heading → Type 0) →
+abbrev pub CanCome : RecordingOptions → Ports → (says : Item Heading → Type 0) →
     Item Heading → Type 0
-CanCome reading says item =
-    says reading.form item
-    ⊎ IsEntered (options_of reading.options) (ports_unsaid reading.unsaid) item
+CanCome options ports says item = says item ⊎ IsEntered (options_of options) ports item
+
+abbrev pub CanBeRead : {F : Type 0} → RecordingOptions → Reading F →
+    (says : F → Item Heading → Type 0) → Item Heading → Type 0
+CanBeRead options reading says =
+    CanCome options (ports_unsaid reading.unsaid) (says reading.form)
 
 -- What a run answers whose input has these bytes, and then has `rest`. Those that were seen first
 -- decide whether it is read as a recording, or as a list of the kind of its form.
-abbrev pub ReadingAnswers : {F Said Thing : Type 0} → Reading F → (F → Kind Said Thing) →
-    (says_of : Heading → List ℕ → Said) → (seen : List ℕ) →
+abbrev pub ReadingAnswers : {F Said Thing : Type 0} → RecordingOptions → Reading F →
+    (F → Kind Said Thing) → (says_of : Heading → List ℕ → Said) → (seen : List ℕ) →
     (done told begins : List (Item Heading) → Type 0) → List ℕ → Option (List ℕ) →
     Result InputCount RunFault → Type 0
-ReadingAnswers reading kind says_of seen done told begins bytes rest result =
+ReadingAnswers options reading kind says_of seen done told begins bytes rest result =
     InputAnswers (kind reading.form) (thing_of (kind reading.form) says_of)
-    (options_of reading.options, ports_unsaid reading.unsaid) done told begins
-    (is_recorded reading.options seen) bytes rest result
+    (options_of options, ports_unsaid reading.unsaid) done told begins
+    (is_recorded options seen) bytes rest result

@@ -1,5 +1,5 @@
 -- What is taken of an input of recordings, of one or of two, by the settings of the source.
-use Rattle.std.specs.Prelude.{ℕ, ◌≡◌, false, List, ◌++◌, Option, Some, None}
+use Rattle.std.specs.Prelude.{ℕ, ◌≡◌, false, List, ◌++◌, Option, Some, None, Result, Ok, Err}
 use Rattle.afdx_frame.specs.declared.by_side.BySide.{BySide}
 use Rattle.afdx_input_lines.specs.Watching.{calls_of, device_of, has_failed, is_over}
 use Rattle.afdx_input_lines.specs.declared.fault.RunFault.{RunFault}
@@ -61,6 +61,20 @@ pub record Takes {H : Type 0} (items_of : Lines → List (Item H)) (whole : Take
   pub tally : (past : List (Item H)) → ended past → counted ≡ whole.tally
   pub stops : (past : List (Item H)) (fault : RunFault) → stopped past fault →
       AreItems items_of (λ lines. StopsBehindLines whole AreCut lines fault) past
+
+-- with this answer a run has taken these lines of the whole `whole` of recordings; `AreCut` says
+-- what was read until a read failed
+module _ (whole : Taken) (AreCut : Lines → Type 0) (lines : Lines) where
+  -- all before this fault; all that was read until a read failed; or, after a failed write or want
+  -- of memory, some first ones
+  abbrev pub StopsTaking : RunFault → Cause → Type 0
+  StopsTaking fault FailedRead = AreCut lines
+  StopsTaking fault BadInput = (whole.fault ≡ Some fault) × (whole.lines ≡ lines)
+  StopsTaking fault _ = AreFirstLines whole lines
+
+  abbrev pub TakesLines : Result Tally RunFault → Type 0
+  TakesLines (Ok tally) = AreAllLines whole lines × (tally ≡ whole.tally)
+  TakesLines (Err fault) = StopsTaking fault (cause_of fault)
 
 -- ---- of one recording
 

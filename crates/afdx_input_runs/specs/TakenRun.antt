@@ -1,13 +1,11 @@
 -- What a run answers that takes all of this: of a recording, or of two.
 use Rattle.std.specs.Prelude.{◌≡◌, ◌⊎◌, List, ◌++◌, Some, None, Result, Ok, Err}
 use Rattle.afdx_input_lines.specs.declared.fault.RunFault.{RunFault}
-use Rattle.afdx_police.specs.Arrival.{Arrival}
 use Rattle.afdx_input_sources.specs.Causes.{Cause, cause_of, FailedRead, BadInput}
 use Rattle.afdx_input_sources.specs.Engine.{Item}
-use Rattle.afdx_input_sources.specs.Items.{arrivals}
 use Rattle.afdx_input_sources.specs.declared.counts.Tally.{Tally}
-use Rattle.afdx_input_sources.specs.NumberLines.{Lines, arrivals_listed}
-use Rattle.afdx_input_sources.specs.Taking.{Taken, arrivals_in}
+use Rattle.afdx_input_sources.specs.NumberLines.{Lines}
+use Rattle.afdx_input_sources.specs.Taking.{Taken}
 
 -- it has no fault
 abbrev pub HasNoFault : Taken → Type 0
@@ -39,34 +37,3 @@ module _ {H : Type 0} (whole : Taken) (AreCut : Lines → Type 0)
   abbrev pub TakenAnswers : Result Tally RunFault → Type 0
   TakenAnswers (Ok tally) = AllAreTold tally
   TakenAnswers (Err fault) = TakenStops fault (cause_of fault)
-
--- ---- the same of the arrivals, whatever is told of them
-
-module _ (whole : Taken) where
-  -- all was taken, there is no fault, and this is told of the arrivals
-  pub record IsOver (told : List Arrival → Type 0) (tally : Tally) : Type 0 where
-    pub over : HasNoFault whole
-    pub are_told : told (arrivals_in whole)
-    pub tally_is : tally ≡ whole.tally
-
-  -- this is told of some first arrivals
-  pub record FirstAreTold (told : List Arrival → Type 0) : Type 0 where
-    pub past : List Arrival
-    pub later : List Arrival
-    pub parts : arrivals_in whole ≡ later ++ past
-    pub are_told : told past
-
-  -- A run stops with a fault. At a fault of a recording all is told of the arrivals before it.
-  -- After a failed read all is told of the arrivals of what was read. After a failed write, or want
-  -- of memory, a beginning is told of some first arrivals.
-  abbrev pub StopsAs : (AreCut : Lines → Type 0) → (all beginning : List Arrival → Type 0) →
-      RunFault → Cause → Type 0
-  StopsAs AreCut all beginning fault FailedRead =
-      (lines : Lines) × AreCut lines × all (arrivals (arrivals_listed lines))
-  StopsAs AreCut all beginning fault BadInput =
-      (whole.fault ≡ Some fault) × all (arrivals_in whole)
-  StopsAs AreCut all beginning fault _ = FirstAreTold beginning
-
-  abbrev pub StopsTaken : (AreCut : Lines → Type 0) → (all beginning : List Arrival → Type 0) →
-      RunFault → Type 0
-  StopsTaken AreCut all beginning fault = StopsAs AreCut all beginning fault (cause_of fault)

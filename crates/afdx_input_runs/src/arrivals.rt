@@ -12,7 +12,7 @@ use crate::reading::Reading;
 use crate::recording_run::run_pair;
 use afdx_frame::BySide;
 use afdx_input_lines::{Heading, Peeked, RunFault, Watched};
-use afdx_input_sources::{FrameLines, Machine, PairOptions, RecordingOptions, UnsaidPort};
+use afdx_input_sources::{LineForm, Machine, PairOptions, RecordingOptions};
 use afdx_text::Sink;
 use std::alloc::Global;
 use std::io::Read;
@@ -27,6 +27,7 @@ impl RunHead for Heading {
 
 impl<R: Read> RunInput<RecordingOptions, Heading> for Watched<Peeked<R>> {
     ghost use Rattle.afdx_input_runs.specs.Arrivals.{IsAskedForOne, IsNewOne, TakesOne};
+    ghost use Rattle.afdx_input_runs.specs.InputRun.{CanCome as CanComeOfOne};
 
     ghost IsNew = { IsNewOne };
 
@@ -36,33 +37,32 @@ impl<R: Read> RunInput<RecordingOptions, Heading> for Watched<Peeked<R>> {
 
     ghost IsAskedFew = { IsAskedForOne R.remaining };
 
-    ghost Takes = { λ options ports bytes rest past.
-        TakesOne R.remaining options ports bytes rest (arrivals_of past) };
+    ghost CanCome = { CanComeOfOne };
+
+    ghost Takes = { TakesOne R.remaining };
 
     fn starts() {}
 
+    fn takes_none<F: LineForm<Heading>>() {}
+
     fn orders() {}
 
-    fn tell_all<M: Machine<Heading>, O: Sink>(
+    fn tell_all<F: LineForm<Heading>, M: Machine<Heading>, O: Sink>(
         &mut self,
         alloc: Global,
         options: RecordingOptions,
-        unsaid: UnsaidPort<'_>,
+        reading: Reading<'_, F>,
         machine: &mut M,
         output: &mut O,
     ) -> Result<InputCount, RunFault> {
-        let reading = Reading {
-            options,
-            unsaid,
-            form: FrameLines,
-        };
-        run_input(alloc, reading, machine, self, output)
+        run_input(alloc, options, reading, machine, self, output)
     }
 }
 
 impl<R: Read> RunInput<PairOptions, Heading> for BySide<Watched<R>> {
     ghost use Rattle.afdx_input_runs.specs.Arrivals.{AreNewTwo, IsAskedForEach, TakesTwo};
     ghost use Rattle.afdx_input_runs.specs.Over.{bytes_of_both};
+    ghost use Rattle.afdx_input_runs.specs.RecordingRun.{IsEnteredBy};
 
     ghost IsNew = { AreNewTwo };
 
@@ -72,21 +72,25 @@ impl<R: Read> RunInput<PairOptions, Heading> for BySide<Watched<R>> {
 
     ghost IsAskedFew = { IsAskedForEach R.remaining };
 
-    ghost Takes = { λ options ports bytes rest past.
-        TakesTwo R.remaining options ports bytes rest (arrivals_of past) };
+    ghost CanCome = { λ options ports says. IsEnteredBy options ports };
+
+    ghost Takes = { λ listed. TakesTwo R.remaining };
 
     fn starts() {}
 
+    fn takes_none<F: LineForm<Heading>>() {}
+
     fn orders() {}
 
-    fn tell_all<M: Machine<Heading>, O: Sink>(
+    fn tell_all<F: LineForm<Heading>, M: Machine<Heading>, O: Sink>(
         &mut self,
         alloc: Global,
         options: PairOptions,
-        unsaid: UnsaidPort<'_>,
+        reading: Reading<'_, F>,
         machine: &mut M,
         output: &mut O,
     ) -> Result<InputCount, RunFault> {
+        let Reading { unsaid, .. } = reading;
         let tally = run_pair(alloc, options, unsaid, machine, self, output)?;
         Ok(InputCount::Recorded(tally))
     }

@@ -9,7 +9,7 @@ ghost use Rattle.afdx_input_sources.specs.Becoming.{options_of};
 ghost use Rattle.afdx_input_sources.specs.Claims.{ports_unsaid};
 ghost use Rattle.afdx_input_sources.specs.Entering.{IsEntered};
 ghost use Rattle.afdx_input_runs.specs.InputRun as spec;
-ghost use Rattle.afdx_input_runs.specs.InputRun.{CanCome, IsAskedBy, IsAskedFew, ReadingAnswers};
+ghost use Rattle.afdx_input_runs.specs.InputRun.{CanBeRead, IsAskedBy, IsAskedFew, ReadingAnswers};
 ghost use Rattle.afdx_input_runs.specs.RecordingRun.{IsAskedOnce, RecordingAnswers};
 
 use crate::reading::Reading;
@@ -74,6 +74,7 @@ fn run_recorded<R: Read, M: Machine<Heading>, O: Sink>(
 /// lines, or what is no arrival.
 fn run_looked<F: LineForm<Heading>, R: Read, M: Machine<Heading>, O: Sink>(
     alloc: Global,
+    options: RecordingOptions,
     reading: Reading<'_, F>,
     machine: &mut M,
     input: &mut Watched<Peeked<R>>,
@@ -84,24 +85,20 @@ fn run_looked<F: LineForm<Heading>, R: Read, M: Machine<Heading>, O: Sink>(
     requires sound_output { O.failed output.old ≡ false }
     requires form { F.IsForm reading.form }
     requires told { IsReadyFor M.Can M.Told machine.old (O.written output.old)
-        (CanCome reading F.Gives) }
+        (CanBeRead options reading F.Gives) }
     ensures ended { OnOk result (has_ended input.new ≡ true) }
     ensures read { has_failed input.new ≡ is_failed_read result }
     ensures write { O.failed output.new ≡ is_failed_write result }
-    ensures calls { IsAskedBy (spec.is_recorded reading.entry.options (held (device_of input.old)))
+    ensures calls { IsAskedBy (spec.is_recorded options (held (device_of input.old)))
         (left_in R.remaining (device_of input.old)) (left_in R.remaining (device_of input.new))
         (calls_of input.old) (calls_of input.new) }
     ensures answer { HoldsOfTold M.Can M.Done M.Told M.Begins machine.old machine.new
-        (O.written output.old) (O.written output.new) (CanCome reading.entry F.Gives)
+        (O.written output.old) (O.written output.new) (CanBeRead options reading.entry F.Gives)
         (λ done told begins. IfSome (left_in R.remaining (device_of input.old)) (λ bytes.
-        ReadingAnswers reading.entry F.kind F.says_of (held (device_of input.old))
+        ReadingAnswers options reading.entry F.kind F.says_of (held (device_of input.old))
         done told begins bytes (left_in R.remaining (device_of input.new)) result)) }
 {
-    let Reading {
-        options,
-        unsaid,
-        form,
-    } = reading;
+    let Reading { unsaid, form } = reading;
     if is_recorded(&options, input.seen()) {
         let tally = run_recorded(alloc, options, unsaid, machine, input, output)?;
         return Ok(InputCount::Recorded(tally));
@@ -119,8 +116,9 @@ fn run_looked<F: LineForm<Heading>, R: Read, M: Machine<Heading>, O: Sink>(
 /// read. The first fault ends the run; what was told before it stands written. `RunFault::Read` and
 /// `RunFault::Write` come exactly where the input's or the output's device failed, the input's also
 /// while it is looked at; neither is tried again.
-pub fn run_input<F: LineForm<Heading>, R: Read, M: Machine<Heading>, O: Sink>(
+pub(crate) fn run_input<F: LineForm<Heading>, R: Read, M: Machine<Heading>, O: Sink>(
     alloc: Global,
+    options: RecordingOptions,
     reading: Reading<'_, F>,
     machine: &mut M,
     input: &mut Watched<Peeked<R>>,
@@ -132,24 +130,24 @@ pub fn run_input<F: LineForm<Heading>, R: Read, M: Machine<Heading>, O: Sink>(
     requires sound_output { O.failed output.old ≡ false }
     requires form { F.IsForm reading.form }
     requires told { IsReadyFor M.Can M.Told machine.old (O.written output.old)
-        (CanCome reading F.Gives) }
+        (CanBeRead options reading F.Gives) }
     ensures ended { OnOk result (has_ended input.new ≡ true) }
     ensures read { has_failed input.new ≡ is_failed_read result }
     ensures write { O.failed output.new ≡ is_failed_write result }
-    ensures calls { IsAskedFew reading.entry.options
+    ensures calls { IsAskedFew options
         (left_in R.remaining (device_of input.old)) (left_in R.remaining (device_of input.new))
         (calls_of input.old) (calls_of input.new) }
 
     // Where all its bytes are known: what is answered and written for the list, or the recording,
     // that they are by the first of them.
     ensures answer { HoldsOfTold M.Can M.Done M.Told M.Begins machine.old machine.new
-        (O.written output.old) (O.written output.new) (CanCome reading.entry F.Gives)
+        (O.written output.old) (O.written output.new) (CanBeRead options reading.entry F.Gives)
         (λ done told begins. IfSome (left_in R.remaining (device_of input.old)) (λ bytes.
-        ReadingAnswers reading.entry F.kind F.says_of (take looked_at bytes)
+        ReadingAnswers options reading.entry F.kind F.says_of (take looked_at bytes)
         done told begins bytes (left_in R.remaining (device_of input.new)) result)) }
 {
     if input.look() {
         return Err(RunFault::Read);
     }
-    run_looked(alloc, reading, machine, input, output)
+    run_looked(alloc, options, reading, machine, input, output)
 }

@@ -5,12 +5,15 @@ ghost use Rattle.afdx_input_lines.specs.Calls.{is_failed_read, is_failed_write};
 ghost use Rattle.afdx_input_lines.specs.declared.fault.RunFault.{RunFault as Fault};
 ghost use Rattle.afdx_input_lines.specs.declared.fault.RunFault.TheVariants.{Memory};
 ghost use Rattle.afdx_input_sources.specs.Claims.{Ports, ports_unsaid};
-ghost use Rattle.afdx_input_sources.specs.Engine.{HoldsOfAllTold, IsReadyForAll, Item};
-ghost use Rattle.afdx_input_runs.specs.Arrivals.{TookAndTold};
+ghost use Rattle.afdx_input_lines.specs.declared.frame_line.Heading.{Heading as Headed};
+ghost use Rattle.afdx_input_sources.specs.Engine.{HoldsOfTold, IsReadyFor, Item};
+ghost use Rattle.afdx_input_sources.specs.Lists.{Kind};
+ghost use Rattle.afdx_input_runs.specs.Arrivals.{ListTaking, TakesForm, TakesFrames, TakesKind, TookAndTold};
 
 use crate::over::{Input, OfLines};
-use afdx_input_lines::RunFault;
-use afdx_input_sources::{Machine, UnsaidPort};
+use crate::reading::Reading;
+use afdx_input_lines::{Heading, RunFault};
+use afdx_input_sources::{LineForm, Machine};
 use afdx_text::Sink;
 use std::alloc::Global;
 
@@ -38,49 +41,64 @@ pub trait RunInput<P, H: RunHead>: Input {
     /// From the first to the last it was asked no more often than is needed.
     ghost IsAskedFew: { P → Self → Self → Type 0 };
 
-    /// Of an input of these bytes, which is then this one, a run with this answer has taken these.
-    ghost Takes: { P → Ports → Bytes → Self → List (Item H) → Result H.Count Fault → Type 0 };
+    /// Such an item can come of it, by its options and these ports, and of lists whose lines say
+    /// items of which this holds.
+    ghost CanCome: { P → Ports → (Item Headed → Type 0) → Item H → Type 0 };
 
-    /// A run that wants memory at once takes none.
+    /// Of an input of these bytes, which is then this one, a run with this answer has taken these,
+    /// where of a list it takes what the first says.
+    ghost Takes: { ListTaking → P → Ports → Bytes → Self → List (Item H) →
+        Result H.Count Fault → Type 0 };
+
+    /// Nothing was asked of a new one.
     fn starts()
         ensures sound { (input : Self) → IsNew input → Self.failed input ≡ false }
         ensures asked { (options : P) (input : Self) → IsNew input →
-            IsAskedFew options input input }
-        ensures takes { (options : P) (ports : Ports) (bytes : Bytes) (input : Self) →
-            IsNew input → known input ≡ Some bytes →
-            Takes options ports bytes input [] (Err Memory) };
+            IsAskedFew options input input };
 
-    /// The times of what it takes don't go back.
+    /// A run that wants memory at once takes none, whatever kind of list it may read.
+    fn takes_none<F: LineForm<Heading>>()
+        ensures { (kind : Kind F.Said F.Thing) (said : Item Headed → F.Thing) (options : P)
+            (ports : Ports) (bytes : Bytes) (input : Self) →
+            IsNew input → known input ≡ Some bytes →
+            Takes (TakesKind kind said) options ports bytes input [] (Err Memory) };
+
+    /// The times of what it takes don't go back, of lists those of one switch.
     fn orders()
         ensures { (options : P) (ports : Ports) (bytes : Bytes) (rest : Self)
             (past : List (Item H)) (answer : Result H.Count Fault) →
-            Takes options ports bytes rest past answer → H.GoOn past };
+            Takes TakesFrames options ports bytes rest past answer → H.GoOn past };
 
-    /// Lets a machine tell what the run takes, and counts what was read. Where no option says at
-    /// which port a frame of a recording came in, `unsaid` does.
+    /// Lets a machine tell what the run takes, and counts what was read. The lines of a list have
+    /// the form of the reading; those of two lists with roles are of one switch, whatever it is.
+    /// The machine can tell what can come of it.
     ///
     /// The whole text of an arrival, or of a frame, is handed to `output` before the next byte is
     /// read. The first fault ends the run; what was told before it stands written. Of two
     /// recordings it is that of the one that has it. `RunFault::Read` and `RunFault::Write` come
     /// exactly where the device of an input, or the output's, failed; none is tried again.
-    fn tell_all<M: Machine<H>, O: Sink>(
+    fn tell_all<F: LineForm<Heading>, M: Machine<H>, O: Sink>(
         &mut self,
         alloc: Global,
         options: P,
-        unsaid: UnsaidPort<'_>,
+        reading: Reading<'_, F>,
         machine: &mut M,
         output: &mut O,
     ) -> Result<H::Count, RunFault>
         requires new { IsNew self.old }
         requires sound_output { O.failed output.old ≡ false }
-        requires told { IsReadyForAll M.Can M.Told machine.old (O.written output.old) }
+        requires form { F.IsForm reading.form }
+        requires told { IsReadyFor M.Can M.Told machine.old (O.written output.old)
+            (CanCome options (ports_unsaid reading.unsaid) (F.Gives reading.form)) }
         ensures ended { OnOk result (Self.ended self.new) }
         ensures read { Self.failed self.new ≡ is_failed_read result }
         ensures write { O.failed output.new ≡ is_failed_write result }
         ensures calls { IsAskedFew options self.old self.new }
-        ensures answer { HoldsOfAllTold M.Can M.Done M.Told M.Begins machine.old machine.new
-            (O.written output.old) (O.written output.new) (λ done told begins.
+        ensures answer { let how = reading.entry in let ports = ports_unsaid how.unsaid in
+            HoldsOfTold M.Can M.Done M.Told M.Begins machine.old machine.new
+            (O.written output.old) (O.written output.new)
+            (CanCome options ports (F.Gives how.form)) (λ done told begins.
             IfSome (known self.old) (λ bytes. TookAndTold
-            (Takes options (ports_unsaid unsaid.entry) bytes self.new) result
+            (Takes (TakesForm F.kind F.says_of how.form) options ports bytes self.new) result
             done told begins)) };
 }

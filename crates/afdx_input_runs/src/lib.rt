@@ -21,12 +21,12 @@ mod tapping;
 mod two_lists;
 mod two_lists_run;
 
-pub use input_run::{InputCount, run_input};
+pub use input_run::InputCount;
 pub use inputs::{RunHead, RunInput};
 pub use listing::list_numbers;
 pub use over::Input;
 pub use reading::Reading;
-pub use recording_run::{run_pair, run_recording};
+pub use recording_run::run_recording;
 pub use seen::Seen;
 pub use seen_frames::SeenCount;
 pub use tapping::{AsLists, Tapping};

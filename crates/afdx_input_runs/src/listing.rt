@@ -5,13 +5,15 @@ ghost use Rattle.std.specs.Io.KnownBytes.{Appends};
 ghost use Rattle.afdx_input_lines.specs.Calls.{AppendsFront, is_failed_read, is_failed_write};
 ghost use Rattle.afdx_text.specs.Sinks.{SinkKept};
 ghost use Rattle.afdx_input_sources.specs.Claims.{ports_in};
+ghost use Rattle.afdx_input_runs.specs.Arrivals.{TakesFrames};
 ghost use Rattle.afdx_input_runs.specs.ListText as text;
 ghost use Rattle.afdx_input_runs.specs.ListText.{Lists};
 
 use crate::inputs::RunInput;
+use crate::reading::Reading;
 use afdx_config::{Described, SwitchId};
 use afdx_input_lines::RunFault;
-use afdx_input_sources::{Machine, NumberLine, Tally, UnsaidPort};
+use afdx_input_sources::{FrameLines, Machine, NumberLine, Tally, UnsaidPort};
 use afdx_text::{OutLine, Sink, Site};
 use std::alloc::Global;
 
@@ -140,9 +142,12 @@ pub fn list_numbers<P: Drop, A: RunInput<P, NumberLine>, O: Sink>(
 
     // Where its bytes are known: what is answered and written for the numbers that it takes.
     ensures lists { IfSome (A.known input.old) (λ bytes. Lists described.now
-        (A.Takes options (ports_in described.now) bytes input.new)
+        (A.Takes TakesFrames options (ports_in described.now) bytes input.new)
         (O.written output.old) (O.written output.new) result) }
 {
-    let unsaid = UnsaidPort::of_sender_in(described);
-    input.tell_all(alloc, options, unsaid, &mut Lister { described }, output)
+    let reading = Reading {
+        unsaid: UnsaidPort::of_sender_in(described),
+        form: FrameLines,
+    };
+    input.tell_all(alloc, options, reading, &mut Lister { described }, output)
 }

@@ -7,10 +7,11 @@ ghost use Rattle.afdx_input_lines.specs.Watching.{device_of};
 use crate::inputs::{RunHead, RunInput};
 use crate::over::run_over;
 use crate::read_pair::{read_one, read_pair};
+use crate::reading::Reading;
 use afdx_frame::BySide;
-use afdx_input_lines::{RunFault, Watched};
+use afdx_input_lines::{Heading, RunFault, Watched};
 use afdx_input_sources::{
-    Machine, NumberLine, PairOptions, RecordingOptions, SystemPorts, Tally, UnsaidPort,
+    LineForm, Machine, NumberLine, PairOptions, RecordingOptions, SystemPorts, Tally,
 };
 use afdx_text::Sink;
 use std::alloc::Global;
@@ -37,20 +38,25 @@ impl<R: Read> RunInput<RecordingOptions, NumberLine> for Watched<R> {
 
     ghost IsAskedFew = { λ options. IsAskedOnceFor R.remaining };
 
-    ghost Takes = { TakesNumbers R.remaining };
+    ghost CanCome = { λ options ports says item. Unit {0} };
+
+    ghost Takes = { λ listed. TakesNumbers R.remaining };
 
     fn starts() {}
 
+    fn takes_none<F: LineForm<Heading>>() {}
+
     fn orders() {}
 
-    fn tell_all<M: Machine<NumberLine>, O: Sink>(
+    fn tell_all<F: LineForm<Heading>, M: Machine<NumberLine>, O: Sink>(
         &mut self,
         alloc: Global,
         options: RecordingOptions,
-        unsaid: UnsaidPort<'_>,
+        reading: Reading<'_, F>,
         machine: &mut M,
         output: &mut O,
     ) -> Result<Tally, RunFault> {
+        let Reading { unsaid, .. } = reading;
         let ports = SystemPorts::unsaid(alloc, unsaid)?;
         let mut lines = read_one(alloc, options, ports)?;
         run_over(&mut lines, machine, self, output)
@@ -70,20 +76,25 @@ impl<R: Read> RunInput<PairOptions, NumberLine> for BySide<Watched<R>> {
 
     ghost IsAskedFew = { IsAskedForEach R.remaining };
 
-    ghost Takes = { TakesNumbersOfTwo R.remaining };
+    ghost CanCome = { λ options ports says item. Unit {0} };
+
+    ghost Takes = { λ listed. TakesNumbersOfTwo R.remaining };
 
     fn starts() {}
 
+    fn takes_none<F: LineForm<Heading>>() {}
+
     fn orders() {}
 
-    fn tell_all<M: Machine<NumberLine>, O: Sink>(
+    fn tell_all<F: LineForm<Heading>, M: Machine<NumberLine>, O: Sink>(
         &mut self,
         alloc: Global,
         options: PairOptions,
-        unsaid: UnsaidPort<'_>,
+        reading: Reading<'_, F>,
         machine: &mut M,
         output: &mut O,
     ) -> Result<Tally, RunFault> {
+        let Reading { unsaid, .. } = reading;
         let mut lines = read_pair(alloc, options, unsaid)?;
         run_over(&mut lines, machine, self, output)
     }

@@ -74,7 +74,7 @@ pub fn run_recording<R: Read, M: Machine<Heading>, O: Sink>(
 /// frame is read. The first fault of either, as it is found, ends the run; the text of the arrivals
 /// before it stands written. `RunFault::Read` and `RunFault::Write` come exactly where the device
 /// of an input, or the output's, failed; none is tried again.
-pub fn run_pair<R: Read, M: Machine<Heading>, O: Sink>(
+pub(crate) fn run_pair<R: Read, M: Machine<Heading>, O: Sink>(
     alloc: Global,
     options: PairOptions,
     unsaid: UnsaidPort<'_>,

@@ -8,12 +8,13 @@ ghost use Rattle.afdx_input_runs.specs.SeenFrames as spec;
 ghost use Rattle.afdx_input_runs.specs.SeenFrames.{absent_of, lost_of};
 
 use crate::inputs::{RunHead, RunInput};
+use crate::reading::Reading;
 use crate::seen::Seen;
 use crate::seen_run::{run_seen, run_seen_by_role};
 use crate::tapping::AsLists;
 use crate::two_lists_run::run_two_lists;
-use afdx_input_lines::{ByRole, RecordingFault, Role, RunFault, Watched};
-use afdx_input_sources::{Machine, RecordingOptions, Tally, UnsaidPort};
+use afdx_input_lines::{ByRole, Heading, RecordingFault, Role, RunFault, Watched};
+use afdx_input_sources::{LineForm, Machine, RecordingOptions, Tally};
 use afdx_text::Sink;
 use std::alloc::Global;
 use std::io::Read;
@@ -95,18 +96,22 @@ impl<R: Read> RunInput<AsLists, Seen> for ByRole<Watched<R>> {
 
     ghost IsAskedFew = { λ options. IsAskedForLines R.remaining };
 
-    ghost Takes = { λ options ports bytes rest past.
+    ghost CanCome = { λ options ports says item. Unit {0} };
+
+    ghost Takes = { λ listed options ports bytes rest past.
         TakesLists R.remaining bytes rest (frames_of past) };
 
     fn starts() {}
 
+    fn takes_none<F: LineForm<Heading>>() {}
+
     fn orders() {}
 
-    fn tell_all<M: Machine<Seen>, O: Sink>(
+    fn tell_all<F: LineForm<Heading>, M: Machine<Seen>, O: Sink>(
         &mut self,
         alloc: Global,
         _options: AsLists,
-        _unsaid: UnsaidPort<'_>,
+        _reading: Reading<'_, F>,
         machine: &mut M,
         output: &mut O,
     ) -> Result<SeenCount, RunFault> {
@@ -128,21 +133,26 @@ impl<R: Read> RunInput<RecordingOptions, Seen> for Watched<R> {
 
     ghost IsAskedFew = { λ options. IsAskedOnceFor R.remaining };
 
-    ghost Takes = { λ options ports bytes rest past.
+    ghost CanCome = { λ options ports says item. Unit {0} };
+
+    ghost Takes = { λ listed options ports bytes rest past.
         TakesRecording R.remaining options ports bytes rest (frames_of past) };
 
     fn starts() {}
 
+    fn takes_none<F: LineForm<Heading>>() {}
+
     fn orders() {}
 
-    fn tell_all<M: Machine<Seen>, O: Sink>(
+    fn tell_all<F: LineForm<Heading>, M: Machine<Seen>, O: Sink>(
         &mut self,
         alloc: Global,
         options: RecordingOptions,
-        unsaid: UnsaidPort<'_>,
+        reading: Reading<'_, F>,
         machine: &mut M,
         output: &mut O,
     ) -> Result<SeenCount, RunFault> {
+        let Reading { unsaid, .. } = reading;
         let tally = run_seen(alloc, options, unsaid, machine, self, output)?;
         Ok(SeenCount::Recorded(tally))
     }
@@ -160,21 +170,26 @@ impl<R: Read> RunInput<ByRole<RecordingOptions>, Seen> for ByRole<Watched<R>> {
 
     ghost IsAskedFew = { λ options. IsAskedForRoles R.remaining };
 
-    ghost Takes = { λ options ports bytes rest past.
+    ghost CanCome = { λ options ports says item. Unit {0} };
+
+    ghost Takes = { λ listed options ports bytes rest past.
         TakesRecordings R.remaining options ports bytes rest (frames_of past) };
 
     fn starts() {}
 
+    fn takes_none<F: LineForm<Heading>>() {}
+
     fn orders() {}
 
-    fn tell_all<M: Machine<Seen>, O: Sink>(
+    fn tell_all<F: LineForm<Heading>, M: Machine<Seen>, O: Sink>(
         &mut self,
         alloc: Global,
         options: ByRole<RecordingOptions>,
-        unsaid: UnsaidPort<'_>,
+        reading: Reading<'_, F>,
         machine: &mut M,
         output: &mut O,
     ) -> Result<SeenCount, RunFault> {
+        let Reading { unsaid, .. } = reading;
         let tallies = run_seen_by_role(alloc, options, unsaid, machine, self, output)?;
         Ok(SeenCount::Both(tallies))
     }

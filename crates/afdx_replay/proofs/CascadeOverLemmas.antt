@@ -21,23 +21,12 @@ use Rattle.afdx_frame.specs.Seals.{IsSealedAs}
 use Rattle.afdx_frame.specs.Times.{latest_listed}
 use Rattle.afdx_input_sources.specs.Engine.{CanTell, Item, item_of}
 use Rattle.afdx_input_sources.specs.Items.{CanFollow, thing_of}
-use Rattle.afdx_input_sources.specs.ListRun.{IsDone, ListAnswers, Of}
+use Rattle.afdx_input_sources.specs.ListRun.{IsDone, ListAnswers}
 use Rattle.afdx_input_sources.specs.Listed.{frames}
 use Rattle.afdx_input_sources.specs.Lists.{latest_in}
-use Rattle.afdx_input_sources.proofs.ListRunLemmas.{answers-err, answers-ok, start-answers}
-use Rattle.afdx_input_sources.proofs.RunLemmas.{stops-at-start, stops-more}
-use Rattle.afdx_input_runs.specs.InputRun.{InputAnswers, is_read_recorded}
-use Rattle.afdx_input_runs.specs.RecordingRun.{IfBoth}
-use Rattle.afdx_input_runs.specs.TakenRun.{TakenAnswers}
-use Rattle.afdx_input_runs.proofs.RecordingRunLemmas.{answers-start, listed-none}
-use Rattle.afdx_input_runs.proofs.TakenLemmas.{answers-say}
-use Rattle.afdx_input_sources.specs.Becoming.{options_of}
-use Rattle.afdx_input_sources.specs.Claims.{ports_of_several}
-use Rattle.afdx_input_sources.specs.NumberLines.{Lines as RecordedLines, arrivals_listed}
-use Rattle.afdx_input_sources.specs.Taking.{Taken, AreCutOff, taken_of_bytes}
-use Rattle.afdx_input_sources.specs.declared.counts.Tally.{Tally}
+use Rattle.afdx_input_sources.proofs.ListRunLemmas.{answers-err, answers-ok}
+use Rattle.afdx_input_sources.proofs.RunLemmas.{stops-at-start}
 use Rattle.afdx_input_runs.specs.declared.input_run.InputCount.{InputCount}
-use Rattle.afdx_input_runs.specs.declared.input_run.InputCount.TheVariants.{Lines, Recorded}
 use Rattle.afdx_input_lines.specs.FrameLines.{listed_frame}
 use Rattle.afdx_input_lines.specs.Lines.{lines_of, most_lines}
 use Rattle.afdx_input_lines.specs.SitedLines.{NamedCables, sited_frame}
@@ -45,14 +34,16 @@ use Rattle.afdx_input_lines.specs.declared.fault.RunFault.{RunFault}
 use Rattle.afdx_input_lines.specs.declared.fault.RunFault.TheVariants as run
 use Rattle.afdx_input_lines.specs.declared.frame_line.Heading.{Heading}
 use Rattle.afdx_input_lines.specs.declared.watched.Watched.{Watched}
-use Rattle.afdx_input_sources.specs.declared.becoming.RecordingOptions.{RecordingOptions}
 use Rattle.afdx_text.proofs.OutputLemmas.{whole_front}
-use Rattle.afdx_replay.specs.Inputs.{answer_of}
+use Rattle.afdx_input_runs.specs.Arrivals.{TookAndTold}
+use Rattle.afdx_input_runs.proofs.ArrivalsLemmas.{by-more, if-known as where-known}
+use Rattle.afdx_replay.specs.Inputs.{Taking, answer_of}
 use Rattle.afdx_replay.specs.cascading.Early.{AreEarlyLines, HearsEarly}
 use Rattle.afdx_replay.proofs.EarlyLemmas.{hears-start}
-use Rattle.afdx_replay.specs.cascading.Input.{Answering, PairAnswers, Replays, TellsReplay}
+use Rattle.afdx_replay.specs.cascading.Input.{Replays, TellsTaken}
 use Rattle.afdx_replay.specs.cascading.Items.{BeginsItems, TellsAll, TellsItems}
-use Rattle.afdx_replay.specs.cascading.Ran.{Answers, HearsSoFar, WritesAll, WritesList, WritesSoFar, WritesSome, lists}
+use Rattle.afdx_replay.specs.cascading.Ran.{AllIsTold, AllSoFarIsTold, Answers, HearsSoFar, SomeIsTold}
+use Rattle.afdx_replay.specs.cascading.Ran.{WritesAll, WritesList, WritesSoFar, WritesSome, lists}
 use Rattle.afdx_replay.specs.cascading.Sited.{IsAtPlace, IsAtSite, cables_of, lines_in, site_of, sited_frames}
 use Rattle.afdx_replay.specs.cascading.Sited.{sites_of}
 use Rattle.afdx_replay.specs.cascading.Text.{cascade_text}
@@ -110,7 +101,7 @@ no-end None e = refl
 no-end (Some f) e = absurd (true≢false e)
 
 module _ (ss : List NamedRows) where
-  at-place : (x : Item Heading) → IsAtSite (sites_of ss) x → IsAtPlace ss x
+  pub at-place : (x : Item Heading) → IsAtSite (sites_of ss) x → IsAtPlace ss x
   at-place x is =
       let count = sites-count ss in
       let within : x.head.switch < length ss = omega (arith, is.within, count) in
@@ -229,46 +220,33 @@ file-promised (One t) list rest old new answer lawful admitted h =
 file-promised (Several ss) None rest old new answer lawful admitted h = tt
 file-promised (Several ss) (Some bytes) rest old new answer lawful admitted h = tt
 
--- ---- an input of which the first bytes decide
-
-module _ (ss : List NamedRows) (options : RecordingOptions) (done told begins : List (Item Heading) → Type 0)
-  where
-    abbrev pub OneAnswers : (is : Bool) → List ℕ → (rest : Known) → Result InputCount RunFault → Type 0
-    OneAnswers is bytes rest answer =
-        InputAnswers (sited_frames (sites_of ss)) (thing_of (sited_frames (sites_of ss)) sited_frame)
-        (options_of options, ports_of_several ss) done told begins is bytes rest answer
-
-    -- there was no memory
-    pub memory-one : (left : Known) → told []
-        → IfSome left (λ bytes. OneAnswers (is_read_recorded options (Some bytes)) bytes left (Err run.Memory))
-    memory-one None start = tt
-    memory-one (Some bytes) start = by (is_read_recorded options (Some bytes))
-      where
-        by : (is : Bool) → OneAnswers is bytes (Some bytes) (Err run.Memory)
-        by true =
-            answers-start (options_of options) (ports_of_several ss) arrivals_listed done told begins (Some bytes)
-            (Some bytes) listed-none start
-        by false =
-            start-answers (sited_frames (sites_of ss)) (thing_of (sited_frames (sites_of ss)) sited_frame) done told
-            begins (Some bytes) start
-
 -- ---- a replay that is handed nothing
 
 module _ {D : Type 0} (contents : D → Option (List ℕ)) (ss : List NamedRows) where
-  pub none-so-far : (early : Option (Watched D)) (output : Known)
-      → WritesSoFar ss [] output output × HearsSoFar contents ss [] early early
-  unfolding cascade_text
-  none-so-far early output = (
+  none-some : (early : Option (Watched D)) (output : Known) → SomeIsTold contents ss [] early early output output
+  none-some early output = (
+    start-some ss output,
     record {
       events = [];
+      left = [];
+      few = omega arith;
       first = refl;
-      parts = no-parts ss;
-      at_line = refl;
-      brought = λ k port side other joined. nothing-brought side k port other;
-      written = Appends-nil output;
+      heard = hears-start contents (AreEarlyLines ss []) early refl;
     },
-    record { events = []; first = refl; at_line = refl; heard = hears-start contents (AreEarlyLines ss []) early refl },
   )
+
+  pub replays-none : {B : Type 0} (known : Option B) (takes : B → Taking) (early : Option (Watched D))
+      (output : Known) (counts : Summary)
+      → ((bytes : B) → known ≡ Some bytes → takes bytes [] (Err run.Memory))
+      → Replays contents ss early early output output known takes (Err run.Memory)
+  replays-none known takes early output counts taken = record {
+    counts = counts;
+    count = Err run.Memory;
+    answered = refl;
+    told = where-known known
+        (λ bytes. TellsTaken contents ss early early output output (takes bytes) counts (Err run.Memory))
+        (λ bytes is. record { items = []; taken = taken bytes is; told = none-some early output });
+  }
 
   -- a new replay tells this device
   pub told-anew : (w : Cascade) (t u : Teller D) (early : Option (Watched D)) (output : Known)
@@ -299,77 +277,45 @@ module _ {D : Type 0} (contents : D → Option (List ℕ)) (ss : List NamedRows)
       (told-anew w t u early output has switches systems counts is) until
       (subst (λ (c : Summary). AreSteady c) (sym counts) steady)
 
-  module _ (input : Answering) (early now : Option (Watched D)) (old new : Known) where
-    pub replays-so : (counts : Summary) (count : Result InputCount RunFault)
-        → TellsReplay contents ss input early now old new counts count
-        → Replays contents ss input early now old new (answer_of counts count)
-    replays-so counts count h = record { counts = counts; count = count; answered = refl; told = h }
+-- ---- of the items that a run took
 
--- ---- of which more is told
+module _ {D : Type 0} (contents : D → Option (List ℕ)) (ss : List NamedRows) (early : Option (Watched D))
+    (m : Cascading D) (old new : Known) where
+  begun : (items : List (Item Heading))
+      → TellsItems contents (ss, early) m old new items ⊎ BeginsItems contents (ss, early) m old new items
+      → BeginsItems contents (ss, early) m old new items
+  begun items (inl a) = told-some-of contents ss early m old new items a
+  begun items (inr b) = b
 
-module _ (ss : List NamedRows) (options : RecordingOptions) (done more told begins : List (Item Heading) → Type 0)
-    (f : (items : List (Item Heading)) → more items → told items) where
-  either : (items : List (Item Heading)) → more items ⊎ begins items → told items ⊎ begins items
-  either items (inl m) = inl (f items m)
-  either items (inr b) = inr b
+  -- the machine told them
+  abbrev pub ToldOf : Taking → Result InputCount RunFault → Type 0
+  ToldOf takes r =
+      TookAndTold takes r (TellsAll contents (ss, early) m old new) (TellsItems contents (ss, early) m old new)
+      (BeginsItems contents (ss, early) m old new)
 
-  more-told : (is : Bool) (bytes : List ℕ) (rest : Known) (count : Result InputCount RunFault)
-      → OneAnswers ss options done more begins is bytes rest count
-      → OneAnswers ss options done told begins is bytes rest count
-  more-told true bytes rest (Ok (Recorded tally)) h =
-      answers-say (taken_of_bytes (options_of options) (ports_of_several ss) bytes)
-      (AreCutOff (options_of options) (ports_of_several ss) bytes rest) arrivals_listed done more told begins f
-      (Ok tally) h
-  more-told true bytes rest (Ok (Lines n)) h = absurd h
-  more-told true bytes rest (Err fault) h =
-      answers-say (taken_of_bytes (options_of options) (ports_of_several ss) bytes)
-      (AreCutOff (options_of options) (ports_of_several ss) bytes rest) arrivals_listed done more told begins f
-      (Err fault) h
-  more-told false bytes rest (Ok (Recorded tally)) h = absurd h
-  more-told false bytes rest (Ok (Lines n)) h = h
-  more-told false bytes rest (Err fault) h =
-      let k = sited_frames (sites_of ss) in
-      let said = thing_of k sited_frame in
-      stops-more k (Of said more) (Of said (λ past. more past ⊎ begins past)) (Of said told)
-      (Of said (λ past. told past ⊎ begins past)) bytes rest (λ n t. (t.0, t.1, f t.0 t.2))
-      (λ n b. (b.0, b.1, either b.0 b.2)) fault h
+  -- so a replay did that has its counts and its device
+  abbrev pub ReplayedOf : Taking → Result InputCount RunFault → Type 0
+  ReplayedOf takes r = TellsTaken contents ss early m.teller.early old new takes m.teller.counts r
 
-  pub more-left : (left rest : Known) (count : Result InputCount RunFault)
-      → IfSome left (λ bytes.
-      OneAnswers ss options done more begins (is_read_recorded options (Some bytes)) bytes rest count)
-      → IfSome left (λ bytes.
-      OneAnswers ss options done told begins (is_read_recorded options (Some bytes)) bytes rest count)
-  more-left None rest count h = tt
-  more-left (Some bytes) rest count h = more-told (is_read_recorded options (Some bytes)) bytes rest count h
+  tells-taken : (takes : Taking) (r : Result InputCount RunFault) → ToldOf takes r → ReplayedOf takes r
+  tells-taken takes r (items, taken, told) = record {
+    items = items;
+    taken = taken;
+    told = by-more r (TellsAll contents (ss, early) m old new items) (TellsItems contents (ss, early) m old new items)
+        (TellsItems contents (ss, early) m old new items ⊎ BeginsItems contents (ss, early) m old new items)
+        (AllIsTold contents ss (lines_in items) early m.teller.early old new m.teller.counts)
+        (AllSoFarIsTold contents ss (lines_in items) early m.teller.early old new)
+        (SomeIsTold contents ss (lines_in items) early m.teller.early old new) (λ a. a)
+        (λ a. told-so-far-of contents ss early m old new items a) (λ a. begun items a) told;
+  }
 
--- of two recordings
-module _ (ss : List NamedRows) (done more told begins : List (Item Heading) → Type 0)
-    (f : (items : List (Item Heading)) → more items → told items) where
-  pub more-pair : (whole : List ℕ → List ℕ → Taken) (cut : List ℕ → List ℕ → RecordedLines → Type 0) (a b : Known)
-      (count : Result InputCount RunFault)
-      → IfBoth a b (λ a b. PairAnswers ss done more begins (whole a b) (cut a b) count)
-      → IfBoth a b (λ a b. PairAnswers ss done told begins (whole a b) (cut a b) count)
-  more-pair whole cut None b count h = tt
-  more-pair whole cut (Some a) None count h = tt
-  more-pair whole cut (Some a) (Some b) (Ok (Recorded tally)) h =
-      answers-say (whole a b) (cut a b) arrivals_listed done more told begins f (Ok tally) h
-  more-pair whole cut (Some a) (Some b) (Ok (Lines n)) h = absurd h
-  more-pair whole cut (Some a) (Some b) (Err fault) h =
-      answers-say (whole a b) (cut a b) arrivals_listed done more told begins f (Err fault) h
+  if-told : {B : Type 0} (known : Option B) (takes : B → Taking) (r : Result InputCount RunFault)
+      → IfSome known (λ bytes. ToldOf (takes bytes) r) → IfSome known (λ bytes. ReplayedOf (takes bytes) r)
+  if-told None takes r h = tt
+  if-told (Some bytes) takes r h = tells-taken (takes bytes) r h
 
--- what two recordings are answered with
-module _ (ss : List NamedRows) (done told begins : List (Item Heading) → Type 0)
-    (whole : List ℕ → List ℕ → Taken) (cut : List ℕ → List ℕ → RecordedLines → Type 0) where
-  pub pair-ok : (a b : Known) (tally : Tally)
-      → IfBoth a b (λ a b. TakenAnswers (whole a b) (cut a b) arrivals_listed done told begins (Ok tally))
-      → IfBoth a b (λ a b. PairAnswers ss done told begins (whole a b) (cut a b) (Ok (Recorded tally)))
-  pair-ok None b tally h = tt
-  pair-ok (Some a) None tally h = tt
-  pair-ok (Some a) (Some b) tally h = h
-
-  pub pair-err : (a b : Known) (fault : RunFault)
-      → IfBoth a b (λ a b. TakenAnswers (whole a b) (cut a b) arrivals_listed done told begins (Err fault))
-      → IfBoth a b (λ a b. PairAnswers ss done told begins (whole a b) (cut a b) (Err fault))
-  pair-err None b fault h = tt
-  pair-err (Some a) None fault h = tt
-  pair-err (Some a) (Some b) fault h = h
+  pub replays-told : {B : Type 0} (known : Option B) (takes : B → Taking) (r : Result InputCount RunFault)
+      → IfSome known (λ bytes. ToldOf (takes bytes) r)
+      → Replays contents ss early m.teller.early old new known takes (answer_of m.teller.counts r)
+  replays-told known takes r h =
+      record { counts = m.teller.counts; count = r; answered = refl; told = if-told known takes r h }

@@ -36,7 +36,7 @@ use Rattle.afdx_input_sources.proofs.ListRunLemmas.{answers-err, answers-ok}
 use Rattle.afdx_command_tables.specs.Counts.{with_lines}
 use Rattle.afdx_command_tables.specs.Commands.{status_of_answer}
 use Rattle.afdx_command_tables.specs.declared.summary.Summary.{Summary}
-use Rattle.afdx_replay.specs.Inputs.{answer_of, summary_in, tally_in, EndsInputAs}
+use Rattle.afdx_replay.specs.Inputs.{Taking, answer_of, summary_in, tally_in, EndsInputAs}
 use Rattle.afdx_replay.specs.declared.input_ending.InputEnded.{InputEnded}
 use Rattle.afdx_replay.specs.declared.input_ending.InputSummary.{InputSummary}
 use Rattle.afdx_replay.specs.policing.Input.{Polices}
@@ -46,7 +46,7 @@ use Rattle.afdx_replay.specs.policing.Told as police_told
 use Rattle.afdx_replay.specs.declared.policing.run.Police.{Police}
 use Rattle.afdx_text.proofs.OutputLemmas.{whole_front as front-whole}
 use Rattle.afdx_replay.specs.replaying.Early.{AreEarlyLines, HearsEarly, HearsMost}
-use Rattle.afdx_replay.specs.replaying.Input.{Hearing, Hears, Replays, Taking, Writes, WritesPromised, counts_of}
+use Rattle.afdx_replay.specs.replaying.Input.{Hearing, Hears, Replays, Writes, WritesPromised, counts_of}
 use Rattle.afdx_replay.specs.replaying.PromisedRun.{IsAsPromised, WritesPromisedSoFar, WritesPromisedSome}
 use Rattle.afdx_replay.specs.replaying.Replayed.{Known, ToldAll, WritesAll, WritesSoFar, WritesSome}
 use Rattle.afdx_replay.specs.replaying.Text.{replay_text}

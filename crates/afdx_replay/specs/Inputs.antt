@@ -4,12 +4,18 @@ use Rattle.std.specs.Prelude.{ℕ, ◌≡◌, Bool, List, Option, Some, None, Re
 use Rattle.afdx_input_lines.specs.declared.fault.RunFault.{RunFault}
 use Rattle.afdx_input_runs.specs.declared.input_run.InputCount.{InputCount}
 use Rattle.afdx_input_runs.specs.declared.input_run.InputCount.TheVariants.{Lines, Recorded}
+use Rattle.afdx_input_lines.specs.declared.frame_line.Heading.{Heading}
+use Rattle.afdx_input_sources.specs.Engine.{Item}
 use Rattle.afdx_input_sources.specs.declared.counts.Tally.{Tally}
 use Rattle.afdx_command_tables.specs.declared.summary.Summary.{Summary}
 use Rattle.afdx_input_lines.specs.declared.watched.Watched.{Watched}
 use Rattle.afdx_command_tables.specs.Commands.{EndsWith}
 use Rattle.afdx_replay.specs.declared.input_ending.InputEnded.{InputEnded}
 use Rattle.afdx_replay.specs.declared.input_ending.InputSummary.{InputSummary}
+
+-- with this answer a run has taken the arrivals of these items
+abbrev pub Taking : Type 1
+Taking = List (Item Heading) → Result InputCount RunFault → Type 0
 
 -- these counts, of so many lines or numbers
 abbrev pub counted_over : Summary → ℕ → Summary

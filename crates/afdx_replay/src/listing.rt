@@ -3,6 +3,7 @@
 ghost use Rattle.std.specs.Prelude.{◌≡◌, ◌||◌, ◌↔◌, None, IsSome, OnOk, IfErr, false, true};
 ghost use Rattle.std.specs.Result.{result_ok};
 ghost use Rattle.afdx_text.specs.Telling.{TellsFault};
+ghost use Rattle.afdx_input_runs.specs.Arrivals.{TakesFrames};
 ghost use Rattle.afdx_replay.specs.Listing.{EndsListing, ListsBy, status_of_listing};
 ghost use Rattle.afdx_replay.specs.Placed.{HoldsOfOptions, IsPlacedStatus};
 
@@ -94,7 +95,8 @@ pub fn list_and_count<P: Placing + Drop, A: RunInput<P, NumberLine>, O: Sink, E:
     // configuration, or nothing is read and nothing is written.
     ensures lists { EndsListing P.ArePlaced P.AreNotPlaced E.contents config.now options
         errors.old errors.new (A.ended input.new) (A.failed input.new) (O.failed output.new) result
-        (ListsBy A.known A.Takes input.old input.new (O.written output.old) (O.written output.new))
+        (ListsBy A.known (A.Takes TakesFrames) input.old input.new
+        (O.written output.old) (O.written output.new))
         ((input.new ≡ input.old) × (output.new ≡ output.old)) }
 {
     // (a law of the input: before it is asked for anything it hasn't failed)

@@ -7,10 +7,9 @@ use Rattle.afdx_input_sources.specs.Engine.{Item}
 use Rattle.afdx_input_sources.specs.Items.{arrivals}
 use Rattle.afdx_input_runs.specs.Arrivals.{By}
 use Rattle.afdx_input_runs.specs.declared.input_run.InputCount.{InputCount}
-use Rattle.afdx_replay.specs.Inputs.{answer_of}
+use Rattle.afdx_replay.specs.Inputs.{Taking, answer_of}
 use Rattle.afdx_replay.specs.policing.Policed.{WritesText, WritesBeginning}
 use Rattle.afdx_replay.specs.policing.Text.{counts_of}
-use Rattle.afdx_replay.specs.replaying.Input.{Taking}
 use Rattle.afdx_replay.specs.replaying.Replayed.{Known}
 use Rattle.afdx_replay.specs.declared.input_ending.InputSummary.{InputSummary}
 

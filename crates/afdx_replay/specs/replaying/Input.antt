@@ -13,15 +13,14 @@ use Rattle.afdx_input_lines.specs.declared.fault.RunFault.{RunFault}
 use Rattle.afdx_input_lines.specs.declared.frame_line.Heading.{Heading}
 use Rattle.afdx_input_lines.specs.declared.watched.Watched.{Watched}
 use Rattle.afdx_network.specs.Order.{events_of}
-use Rattle.afdx_input_runs.specs.Arrivals.{By}
+use Rattle.afdx_input_runs.specs.Arrivals.{By, ListTaking, TakesFrames}
 use Rattle.afdx_input_runs.specs.declared.input_run.InputCount.{InputCount}
 use Rattle.afdx_command_tables.specs.declared.summary.Summary.{Summary}
-use Rattle.afdx_input_sources.specs.Claims.{Ports, ports_of_one}
+use Rattle.afdx_input_sources.specs.Claims.{Ports, ports_of_one, ports_of_several}
 use Rattle.afdx_input_sources.specs.Engine.{Item}
 use Rattle.afdx_input_sources.specs.Items.{arrivals}
-use Rattle.afdx_replay.specs.Inputs.{answer_of, EndsInputAs}
+use Rattle.afdx_replay.specs.Inputs.{EndsInputAs, Taking, answer_of}
 use Rattle.afdx_replay.specs.Placed.{ArePlacedIn, IsNotRun}
-use Rattle.afdx_replay.specs.cascading.Input.{Answering}
 use Rattle.afdx_replay.specs.cascading.Input as cascade
 use Rattle.afdx_replay.specs.replaying.Early.{HearsEarly, HearsMost}
 use Rattle.afdx_replay.specs.replaying.PromisedRun.{IsAsPromised, WritesPromisedSoFar, WritesPromisedSome}
@@ -30,10 +29,6 @@ use Rattle.afdx_replay.specs.replaying.Text.{replay_text, replay_counts}
 use Rattle.afdx_replay.specs.declared.input_ending.InputEnded.{InputEnded}
 use Rattle.afdx_replay.specs.declared.input_ending.InputSummary.{InputSummary}
 use Rattle.afdx_replay.specs.declared.replaying.input_command.ReplaySettings.{ReplaySettings}
-
--- with this answer a run has taken the arrivals of these items
-abbrev pub Taking : Type 1
-Taking = List (Item Heading) → Result InputCount RunFault → Type 0
 
 -- with this answer a device was told of these arrivals
 abbrev pub Hearing : Type 1
@@ -84,20 +79,22 @@ IsThere there options (One t) = Unit {0}
 IsThere there options (Several switches) = there switches options
 
 -- what a replay does, by what a configuration describes, over an input of some kind: how its bytes
--- are known, what of these a run over one switch a side takes, and what one over several is handed
-module _ {P I B D : Type 0} (known : I → Option B) (takes : P → Ports → B → I → Taking)
-    (answers : P → List NamedRows → (first last : I) → Answering)
-    (contents : D → Option (List ℕ)) where
+-- are known, and what of these a run takes, of which a list's lines name the switches where there
+-- are several on a side
+module _ {P I B D : Type 0} (known : I → Option B)
+    (takes : ListTaking → P → Ports → B → I → Taking) (contents : D → Option (List ℕ)) where
   -- so it is with this answer, by these options, over the input `first`, which is then `last`, with
   -- an output that held `old` and holds `new`, and a device `start` that is handed back as `early`
   abbrev pub ReplaysBy : P → (first last : I) → (start early : Option (Watched D)) →
       (old new : Known) → Result InputSummary RunFault → Described → Type 0
   ReplaysBy options first last start early old new answer (One t) =
-      IfSome (known first) (λ bytes. Replays t (takes options (ports_of_one t) bytes last)
+      IfSome (known first) (λ bytes.
+      Replays t (takes TakesFrames options (ports_of_one t) bytes last)
       (λ past count. Hears t past count contents start early) old new answer)
   ReplaysBy options first last start early old new answer (Several switches) =
-      cascade.Replays contents switches (answers options switches first last)
-      start early old new answer
+      cascade.Replays contents switches start early old new (known first)
+      (λ bytes. takes (cascade.TakesSited switches) options (ports_of_several switches) bytes last)
+      answer
 
 -- a run by what the configuration describes, which is admitted if that is asked for
 pub record RunsIn (config : List ℕ) (admission : Bool) (so : Described → Type 0) : Type 0 where

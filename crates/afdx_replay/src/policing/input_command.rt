@@ -3,6 +3,7 @@
 ghost use Rattle.std.specs.Prelude.{◌≡◌, ◌||◌, ◌⊎◌, ◌↔◌, Result, IsSome, IfSome, codes, None, false, true};
 ghost use Rattle.afdx_text.specs.Telling.{Tells};
 ghost use Rattle.afdx_input_lines.specs.declared.fault.RunFault.{RunFault};
+ghost use Rattle.afdx_input_runs.specs.Arrivals.{TakesFrames};
 ghost use Rattle.afdx_input_sources.specs.Claims.{one_port};
 ghost use Rattle.afdx_replay.specs.Inputs.{EndsInputAs};
 ghost use Rattle.afdx_replay.specs.policing.Command.{commanded_rule, IsCommanded};
@@ -55,12 +56,12 @@ pub fn police_input<P: Drop, A: RunInput<P, Heading>, O: Sink, E: Write>(
         × (input.new ≡ input.old) × (output.new ≡ output.old) }
 
     // Else the command ends as a run over the input answered.
-    ensures polices { IsCommanded given.now →
+    ensures polices { let rule = commanded_rule given.now in IsCommanded given.now →
         (answer : Result InputSummary RunFault)
         × EndsInputAs E.contents (A.ended input.new) (A.failed input.new) (O.failed output.new)
         errors.old errors.new result answer
-        × IfSome (A.known input.old) (λ bytes. Polices (commanded_rule given.now)
-        (A.Takes options (one_port (commanded_rule given.now).port) bytes input.new)
+        × IfSome (A.known input.old) (λ bytes. Polices rule
+        (A.Takes TakesFrames options (one_port rule.port) bytes input.new)
         (O.written output.old) (O.written output.new) answer) }
 {
     // (a law of the input: before it is asked for anything it hasn't failed)

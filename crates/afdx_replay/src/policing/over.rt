@@ -3,6 +3,7 @@
 ghost use Rattle.std.specs.Prelude.{◌≡◌, IfSome, OnOk, false};
 ghost use Rattle.afdx_police.specs.RuleOf.{rule_of};
 ghost use Rattle.afdx_input_lines.specs.Calls.{is_failed_read, is_failed_write};
+ghost use Rattle.afdx_input_runs.specs.Arrivals.{TakesFrames};
 ghost use Rattle.afdx_input_sources.specs.Claims.{one_port};
 ghost use Rattle.afdx_replay.specs.policing.Input.{Polices};
 
@@ -10,8 +11,8 @@ use crate::input_ending::InputSummary;
 use crate::policing::run::Police;
 use afdx_command_tables::{NO_COUNTS, Summary};
 use afdx_input_lines::{Heading, RunFault};
-use afdx_input_runs::RunInput;
-use afdx_input_sources::UnsaidPort;
+use afdx_input_runs::{Reading, RunInput};
+use afdx_input_sources::{FrameLines, UnsaidPort};
 use afdx_police::LinkRule;
 use afdx_text::Sink;
 use std::alloc::Global;
@@ -34,12 +35,15 @@ pub(crate) fn police_over<P: Drop, A: RunInput<P, Heading>, O: Sink>(
 
     // Where its bytes are known: what is answered and written for the arrivals that it takes.
     ensures polices { IfSome (A.known input.old) (λ bytes. Polices (rule_of rule.now)
-        (A.Takes options (one_port (rule_of rule.now).port) bytes input.new)
+        (A.Takes TakesFrames options (one_port (rule_of rule.now).port) bytes input.new)
         (O.written output.old) (O.written output.new) result) }
 {
     let mut police = Police::new(rule);
-    let unsaid = UnsaidPort::One(rule.port);
-    let count = input.tell_all(alloc, options, unsaid, &mut police, output)?;
+    let reading = Reading {
+        unsaid: UnsaidPort::One(rule.port),
+        form: FrameLines,
+    };
+    let count = input.tell_all(alloc, options, reading, &mut police, output)?;
     let counts = Summary {
         accepted: police.accepted,
         dropped: police.dropped,

@@ -4,6 +4,7 @@ ghost use Rattle.std.specs.Prelude.{◌≡◌, ◌||◌, ◌↔◌, IsSome, OnOk
 ghost use Rattle.afdx_replay.specs.Placed.{IsPlacedStatus};
 ghost use Rattle.afdx_command_tables.specs.Taking.{described_of};
 ghost use Rattle.afdx_input_lines.specs.Calls.{is_failed_read, is_failed_write};
+ghost use Rattle.afdx_replay.specs.cascading.Input.{AreThere};
 ghost use Rattle.afdx_replay.specs.replaying.Input.{EndsInput, IsThere, ReplaysBy};
 
 use crate::cascading::over::{SitedInput, replay_sited};
@@ -39,13 +40,14 @@ fn replay_taken<P: Placing + Drop, A: SitedInput<P>, O: Sink, D: Write + Drop>(
     early: Option<Watched<D>>,
 ) -> (Result<InputSummary, RunFault>, Option<Watched<D>>)
     requires new { A.IsNew input.old }
-    requires there { IsThere A.AreThere options (described_of taken.now) }
+    requires there { IsThere (λ switches. AreThere switches A.CanCome) options
+        (described_of taken.now) }
     requires sound_output { O.failed output.old ≡ false }
     ensures ended { OnOk result.0 (A.ended input.new) }
     ensures read { A.failed input.new ≡ is_failed_read result.0 }
     ensures write { O.failed output.new ≡ is_failed_write result.0 }
     ensures calls { A.IsAskedFew options input.old input.new }
-    ensures replays { ReplaysBy A.known A.Takes A.Answers D.contents options input.old input.new
+    ensures replays { ReplaysBy A.known A.Takes D.contents options input.old input.new
         early result.1 (O.written output.old) (O.written output.new) result.0
         (described_of taken.now) }
 {
@@ -105,7 +107,7 @@ pub fn replay_input<P: Placing + Drop, A: SitedInput<P>, O: Sink, E: Write, D: W
     ensures replays { let asked = settings.entry in
         EndsInput P.ArePlaced P.AreNotPlaced E.contents asked errors.old errors.new
         (A.ended input.new) (A.failed input.new) (O.failed output.new) result
-        (λ placed. ReplaysBy A.known A.Takes A.Answers D.contents placed input.old input.new
+        (λ placed. ReplaysBy A.known A.Takes D.contents placed input.old input.new
         asked.early result.1 (O.written output.old) (O.written output.new))
         ((input.new ≡ input.old) × (output.new ≡ output.old)) }
 {

@@ -2,6 +2,7 @@
 
 ghost use Rattle.std.specs.Prelude.{◌≡◌, IfSome, OnOk, false};
 ghost use Rattle.afdx_input_lines.specs.Calls.{is_failed_read, is_failed_write};
+ghost use Rattle.afdx_input_runs.specs.Arrivals.{TakesFrames};
 ghost use Rattle.afdx_input_sources.specs.Claims.{ports_of_one};
 ghost use Rattle.afdx_replay.specs.replaying.Input.{Hears, Replays};
 
@@ -9,8 +10,8 @@ use crate::input_ending::InputSummary;
 use crate::replaying::run::Replay;
 use afdx_config::Tables;
 use afdx_input_lines::{Heading, RunFault, Watched};
-use afdx_input_runs::RunInput;
-use afdx_input_sources::UnsaidPort;
+use afdx_input_runs::{Reading, RunInput};
+use afdx_input_sources::{FrameLines, UnsaidPort};
 use afdx_text::Sink;
 use std::alloc::Global;
 use std::io::Write;
@@ -35,20 +36,24 @@ pub(crate) fn replay_over<P: Drop, A: RunInput<P, Heading>, O: Sink, D: Write + 
 
     // Where its bytes are known: what is answered, written and told for the arrivals that it takes.
     ensures replays { IfSome (A.known input.old) (λ bytes. Replays tables.now
-        (A.Takes options (ports_of_one tables.now) bytes input.new)
+        (A.Takes TakesFrames options (ports_of_one tables.now) bytes input.new)
         (λ past count. Hears tables.now past count D.contents early result.1)
         (O.written output.old) (O.written output.new) result.0) }
 {
     // (laws of the input: where memory is refused at once nothing is taken; times don't go back)
     A::starts();
+    A::takes_none::<FrameLines>();
     A::orders();
     let mut replay = match Replay::new(alloc, tables) {
         Ok(replay) => replay,
         Err(error) => return (Err(RunFault::from(error)), early),
     };
     replay.early = early;
-    let unsaid = UnsaidPort::OfSender(tables);
-    let count = input.tell_all(alloc, options, unsaid, &mut replay, output);
+    let reading = Reading {
+        unsaid: UnsaidPort::OfSender(tables),
+        form: FrameLines,
+    };
+    let count = input.tell_all(alloc, options, reading, &mut replay, output);
     let (counts, early) = (replay.counts, replay.early.take());
     match count {
         Ok(count) => (Ok(InputSummary::of(counts, count)), early),

@@ -2,7 +2,11 @@ use Rattle.std.proofs.Common.{rules, ◌≡◌, Err, [], subst, sym, ◌∙◌}
 use Rattle.std.specs.Io.KnownBytes.{Appends}
 use Rattle.afdx_input_lines.specs.Calls.{AppendsFront}
 use Rattle.afdx_input_lines.specs.declared.fault.RunFault.TheVariants as run
+use Rattle.afdx_input_lines.specs.FrameLines.{listed_frame}
 use Rattle.afdx_input_sources.specs.Claims.{ports_of_one}
+use Rattle.afdx_input_sources.specs.Items.{thing_of}
+use Rattle.afdx_input_sources.specs.Listed.{frames}
+use Rattle.afdx_input_runs.specs.Arrivals.{TakesFrames}
 use Rattle.afdx_input_sources.specs.Tapping.{taps_in}
 use Rattle.afdx_text.specs.ConformLines.{conform_text}
 use Rattle.afdx_text.specs.declared.conform_line.ConformLine.{ConformLine}
@@ -22,16 +26,16 @@ returns-in_err-judging-clause-answer g c =
     in
     let e : c.from_residual.result ≡ Err run.Memory = search rules in
     rw e (where-known (g.A.RunInput.known c.args.inputs.now) _ (λ bytes known. answers-memory
-    (g.A.RunInput.Takes c.args.options (ports_of_one c.args.tables.now) bytes c.args.inputs.now) k
+    (g.A.RunInput.Takes TakesFrames c.args.options (ports_of_one c.args.tables.now) bytes c.args.inputs.now) k
     c.args.choices.now.is_lossy old
-    (c.starts.ensures.takes c.args.options (ports_of_one c.args.tables.now) bytes c.args.inputs.now c.requires.new
-    known)))
+    (c.takes_none.ensures frames (thing_of frames listed_frame) c.args.options (ports_of_one c.args.tables.now) bytes
+    c.args.inputs.now c.requires.new known)))
 
 pub tell_all-requires-clause-told : goal.tell_all-requires-clause-told
 tell_all-requires-clause-told g c = (
   (c.args.tables.now, choices_of (taps_in c.taps-taps.result) c.args.choices.now),
   c.in_ok-judging.ensures (g.O.Sink.written c.args.output.now),
-  λ item. tt,
+  λ item come. tt,
 )
 
 pub returns-in_err-count-clause-answer : goal.returns-in_err-count-clause-answer
@@ -41,13 +45,13 @@ returns-in_err-count-clause-answer g c =
     in
     let e : c.from_residual-in_err-count.result ≡ Err c.in_err-count.field-0.0 = search rules in
     rw e (if-some (λ bytes h. answers-err
-    (g.A.RunInput.Takes c.args.options (ports_of_one c.args.tables.now) bytes c.tell_all.new.self) k
+    (g.A.RunInput.Takes TakesFrames c.args.options (ports_of_one c.args.tables.now) bytes c.tell_all.new.self) k
     c.args.choices.now.is_lossy
     c.tell_all.new.machine old (g.O.Sink.written c.tell_all.new.output) c.in_err-count.field-0.0 h)
     (g.A.RunInput.known c.args.inputs.now)
     (c.in_err-count.ensures.answer k
     (subst (λ p. TellsItems (c.args.tables.now, choices_of p c.args.choices.now) c.in_ok-judging.judging old old [])
-    c.taps-taps.ensures (c.in_ok-judging.ensures old)) (λ item. tt)))
+    c.taps-taps.ensures (c.in_ok-judging.ensures old)) (λ item come. tt)))
 
 pub returns-in_err-put-clause-answer : goal.returns-in_err-put-clause-answer
 returns-in_err-put-clause-answer g c =
@@ -56,7 +60,7 @@ returns-in_err-put-clause-answer g c =
     in
     let e : c.from_residual-in_err-put.result ≡ Err c.in_err-put.field-0.0 = search rules in
     rw e (if-some (λ bytes h. answers-cut
-    (g.A.RunInput.Takes c.args.options (ports_of_one c.args.tables.now) bytes c.tell_all.new.self) k
+    (g.A.RunInput.Takes TakesFrames c.args.options (ports_of_one c.args.tables.now) bytes c.tell_all.new.self) k
     c.args.choices.now.is_lossy
     c.tell_all.new.machine old (g.O.Sink.written c.tell_all.new.output) (g.O.Sink.written c.put.new.self)
     c.in_ok-count.count c.totals-totals.result c.in_err-put.field-0.0 c.in_err-put.ensures.sink.fault
@@ -67,7 +71,7 @@ returns-in_err-put-clause-answer g c =
     (g.A.RunInput.known c.args.inputs.now)
     (c.in_ok-count.ensures.answer k
     (subst (λ p. TellsItems (c.args.tables.now, choices_of p c.args.choices.now) c.in_ok-judging.judging old old [])
-    c.taps-taps.ensures (c.in_ok-judging.ensures old)) (λ item. tt)))
+    c.taps-taps.ensures (c.in_ok-judging.ensures old)) (λ item come. tt)))
 
 pub returns-in-Some-clause-answer : goal.returns-in-Some-clause-answer
 returns-in-Some-clause-answer g c =
@@ -75,7 +79,7 @@ returns-in-Some-clause-answer g c =
     let k : Rows × Choices = (c.args.tables.now, choices_of (g.P.Tapping.tapped c.args.options) c.args.choices.now)
     in
     if-some (λ bytes h. answers-lost
-    (g.A.RunInput.Takes c.args.options (ports_of_one c.args.tables.now) bytes c.tell_all.new.self) k
+    (g.A.RunInput.Takes TakesFrames c.args.options (ports_of_one c.args.tables.now) bytes c.tell_all.new.self) k
     c.args.choices.now.is_lossy
     c.tell_all.new.machine old (g.O.Sink.written c.tell_all.new.output)
     c.in_ok-count.count c.totals-totals.result c.in-Some.fault
@@ -84,7 +88,7 @@ returns-in-Some-clause-answer g c =
     (g.A.RunInput.known c.args.inputs.now)
     (c.in_ok-count.ensures.answer k
     (subst (λ p. TellsItems (c.args.tables.now, choices_of p c.args.choices.now) c.in_ok-judging.judging old old [])
-    c.taps-taps.ensures (c.in_ok-judging.ensures old)) (λ item. tt))
+    c.taps-taps.ensures (c.in_ok-judging.ensures old)) (λ item come. tt))
 
 -- it is no fault of a device
 pub returns-in-Some-clause-read : goal.returns-in-Some-clause-read
@@ -103,7 +107,7 @@ returns-clause-answer g c =
     let k : Rows × Choices = (c.args.tables.now, choices_of (g.P.Tapping.tapped c.args.options) c.args.choices.now)
     in
     if-some (λ bytes h. answers-ok
-    (g.A.RunInput.Takes c.args.options (ports_of_one c.args.tables.now) bytes c.tell_all.new.self) k
+    (g.A.RunInput.Takes TakesFrames c.args.options (ports_of_one c.args.tables.now) bytes c.tell_all.new.self) k
     c.args.choices.now.is_lossy
     c.tell_all.new.machine old (g.O.Sink.written c.tell_all.new.output) (g.O.Sink.written c.put.new.self)
     c.in_ok-count.count c.totals-totals.result
@@ -114,4 +118,4 @@ returns-clause-answer g c =
     (g.A.RunInput.known c.args.inputs.now)
     (c.in_ok-count.ensures.answer k
     (subst (λ p. TellsItems (c.args.tables.now, choices_of p c.args.choices.now) c.in_ok-judging.judging old old [])
-    c.taps-taps.ensures (c.in_ok-judging.ensures old)) (λ item. tt))
+    c.taps-taps.ensures (c.in_ok-judging.ensures old)) (λ item come. tt))

@@ -1,5 +1,6 @@
 use Rattle.std.proofs.Common.{◌≡◌, refl}
 use Rattle.afdx_input_sources.specs.Claims.{ports_in}
+use Rattle.afdx_input_runs.specs.Arrivals.{TakesFrames}
 use Rattle.afdx_input_runs.proofs.ListingLemmas.{if-lists, lines-start}
 use Rattle.afdx_input_runs.proofs.listing.list_numbers.Goals as goal
 
@@ -7,7 +8,7 @@ pub tell_all-requires-clause-told : goal.tell_all-requires-clause-told
 tell_all-requires-clause-told g c = (
   c.args.described.now,
   (refl, lines-start c.args.described.now (g.O.Sink.written c.args.output.now)),
-  λ item. tt,
+  λ item come. tt,
 )
 
 pub returns-clause-lists : goal.returns-clause-lists
@@ -17,5 +18,5 @@ returns-clause-lists g c =
     let new = g.O.Sink.written c.tell_all.new.output in
     if-lists d (c.tell_all.new.machine.described.now ≡ d) old new c.tell_all.result
     (g.A.RunInput.known c.args.input.now)
-    (λ bytes. g.A.RunInput.Takes c.args.options (ports_in d) bytes c.tell_all.new.self)
-    (rw c.of_sender_in-unsaid.ensures at c.tell_all.ensures.answer d (refl, lines-start d old) (λ item. tt))
+    (λ bytes. g.A.RunInput.Takes TakesFrames c.args.options (ports_in d) bytes c.tell_all.new.self)
+    (rw c.of_sender_in.ensures at c.tell_all.ensures.answer d (refl, lines-start d old) (λ item come. tt))

@@ -1,6 +1,5 @@
 use Rattle.afdx_input_lines.specs.Watching.{device_of, has_failed}
 use Rattle.afdx_input_files.specs.Reading.{recorded}
-use Rattle.afdx_input_sources.specs.Items.{arrivals}
 use Rattle.afdx_input_sources.specs.PairOptions.{options_of_a, options_of_b}
 use Rattle.afdx_input_sources.proofs.LawLemmas.{both-in-order, cut-in-order}
 use Rattle.afdx_input_runs.specs.RecordingRun.{AreCutOffInPair, taken_of_pair}
@@ -17,4 +16,4 @@ returns g c options ports both rest past answer h =
     (both-in-order of_a of_b ports options.origin (recorded both.0) (recorded both.1))
     (λ lines c. cut-in-order of_a of_b ports options.origin (has_failed rest.a) (has_failed rest.b) both.0 both.1
     (remaining (device_of rest.a)) (remaining (device_of rest.b)) lines c)
-    (arrivals past) answer h
+    past answer h

@@ -1,10 +1,7 @@
-use Rattle.std.proofs.Common.{Some, arith}
+use Rattle.std.proofs.Common.{arith}
 use Rattle.std.proofs.KnownBytes.{Keeps-refl}
 use Rattle.afdx_input_lines.specs.Peeking.{left_in}
 use Rattle.afdx_input_lines.specs.Watching.{calls_of, device_of}
-use Rattle.afdx_input_sources.specs.Becoming.{options_of}
-use Rattle.afdx_input_runs.specs.InputRun.{is_read_recorded}
-use Rattle.afdx_input_runs.proofs.ArrivalsLemmas.{one-untaken}
 use Rattle.afdx_input_runs.proofs.LookLemmas.{unread-few}
 use Rattle.afdx_input_runs.proofs.arrivals.WatchedPeekedRunInputRecordingOptionsHeading.starts.Goals as goal
 
@@ -12,7 +9,3 @@ pub returns-clause-asked : goal.returns-clause-asked
 returns-clause-asked g c options input fresh =
     let left = left_in g.R.Read.remaining (device_of input) in
     unread-few options left left (calls_of input) (calls_of input) (Keeps-refl left) (omega arith)
-
-pub returns-clause-takes : goal.returns-clause-takes
-returns-clause-takes g c options ports bytes input fresh known =
-    rw known (one-untaken (options_of options) ports (is_read_recorded options (Some bytes)) bytes)

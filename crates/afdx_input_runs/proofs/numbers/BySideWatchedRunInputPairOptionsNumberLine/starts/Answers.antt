@@ -1,7 +1,5 @@
 use Rattle.std.proofs.Common.{refl}
 use Rattle.afdx_input_lines.specs.Watching.{calls_of, device_of}
-use Rattle.afdx_input_runs.specs.RecordingRun.{AreCutOffInPair, taken_of_pair}
-use Rattle.afdx_input_runs.proofs.NumbersLemmas.{none-taken}
 use Rattle.afdx_input_runs.proofs.RecordingRunLemmas.{unasked}
 use Rattle.afdx_input_runs.proofs.numbers.BySideWatchedRunInputPairOptionsNumberLine.starts.Goals as goal
 
@@ -13,8 +11,3 @@ returns-clause-asked g c options input fresh = (
   unasked (g.R.Read.remaining (device_of input.a)) (calls_of input.a),
   unasked (g.R.Read.remaining (device_of input.b)) (calls_of input.b),
 )
-
-pub returns-clause-takes : goal.returns-clause-takes
-returns-clause-takes g c options ports both input fresh known =
-    none-taken (taken_of_pair options ports both.0 both.1)
-    (AreCutOffInPair options ports g.R.Read.remaining both.0 both.1 input)

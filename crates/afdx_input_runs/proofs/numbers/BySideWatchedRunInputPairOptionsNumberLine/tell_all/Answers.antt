@@ -22,7 +22,7 @@ returns-in_err-lines-clause-answer g c law start can =
     let told = g.M.Machine.Told law c.args.machine.now old old in
     let begins = g.M.Machine.Begins law c.args.machine.now old old in
     let options = c.args.options in
-    let ports = ports_unsaid c.args.unsaid in
+    let ports = ports_unsaid c.args.reading.unsaid in
     let start_is = c.args.self.now in
     let stop = two-took done told begins (taken_of_pair options ports)
     (λ a b. AreCutOffInPair options ports g.R.Read.remaining a b start_is)
@@ -34,7 +34,7 @@ returns-in_err-lines-clause-answer g c law start can =
 pub run_over-requires-clause-gave : goal.run_over-requires-clause-gave
 run_over-requires-clause-gave g c =
     pair-start g.R.Read.remaining c.args.self.now c.in_ok-lines.lines c.args.options
-    (ports_unsaid c.args.unsaid) c.requires.new.a.sound c.requires.new.b.sound c.requires.new.a.unended
+    (ports_unsaid c.args.reading.unsaid) c.requires.new.a.sound c.requires.new.b.sound c.requires.new.a.unended
     c.requires.new.b.unended c.in_ok-lines.ensures
 
 pub run_over-requires-clause-set : goal.run_over-requires-clause-set
@@ -43,7 +43,7 @@ run_over-requires-clause-set g c =
 
 pub run_over-requires-clause-told : goal.run_over-requires-clause-told
 run_over-requires-clause-told g c =
-    let told = c.requires.told in (told.0, told.1, λ item any. told.2 item)
+    let told = c.requires.told in (told.0, told.1, λ item any. told.2 item tt)
 
 pub returns-clause-calls : goal.returns-clause-calls
 returns-clause-calls g c = (
@@ -59,11 +59,11 @@ returns-clause-answer g c law start can =
     let told = g.M.Machine.Told law c.run_over.new.machine old new in
     let begins = g.M.Machine.Begins law c.run_over.new.machine old new in
     let options = c.args.options in
-    let ports = ports_unsaid c.args.unsaid in
+    let ports = ports_unsaid c.args.reading.unsaid in
     let first = c.args.self.now in
     let last = c.run_over.new.input in
     two-took done told begins (taken_of_pair options ports)
     (λ a b. AreCutOffInPair options ports g.R.Read.remaining a b last)
     (g.R.Read.remaining first.a.inner) (g.R.Read.remaining first.b.inner) c.run_over.result
     (two-by options ports c.in_ok-lines.lines c.in_ok-lines.ensures lines_themselves done told begins
-    c.run_over.result g.R.Read.remaining first last (c.run_over.ensures.answer law start (λ item any. can item)))
+    c.run_over.result g.R.Read.remaining first last (c.run_over.ensures.answer law start (λ item any. can item tt)))

@@ -20,7 +20,7 @@ returns-in_err-ports-clause-answer g c law start can =
     let begins = g.M.Machine.Begins law c.args.machine.now old old in
     let left = g.R.Read.remaining c.args.self.now.inner in
     let options = options_of c.args.options in
-    let ports = ports_unsaid c.args.unsaid in
+    let ports = ports_unsaid c.args.reading.unsaid in
     let stop = one-took done told begins options ports left left (Err run.Memory)
     (answers-start options ports lines_themselves done told begins left left refl start) in
     let e : c.from_residual.result ≡ Err run.Memory = search rules in
@@ -37,7 +37,7 @@ returns-in_err-lines-clause-answer g c law start can =
     let begins = g.M.Machine.Begins law c.args.machine.now old old in
     let left = g.R.Read.remaining c.args.self.now.inner in
     let options = options_of c.args.options in
-    let ports = ports_unsaid c.args.unsaid in
+    let ports = ports_unsaid c.args.reading.unsaid in
     let stop = one-took done told begins options ports left left (Err run.Memory)
     (answers-start options ports lines_themselves done told begins left left refl start) in
     let e : c.from_residual-in_err-lines.result ≡ Err run.Memory = search rules in
@@ -54,7 +54,7 @@ run_over-requires-clause-set g c =
 
 pub run_over-requires-clause-told : goal.run_over-requires-clause-told
 run_over-requires-clause-told g c =
-    let told = c.requires.told in (told.0, told.1, λ item any. told.2 item)
+    let told = c.requires.told in (told.0, told.1, λ item any. told.2 item tt)
 
 pub returns-clause-calls : goal.returns-clause-calls
 returns-clause-calls g c = c.run_over.ensures.calls (rw (c.requires.new.sound, c.requires.new.unended) refl)
@@ -69,8 +69,8 @@ returns-clause-answer g c law start can =
     let left = g.R.Read.remaining c.args.self.now.inner in
     let rest = g.R.Read.remaining c.run_over.new.input.inner in
     let options = options_of c.args.options in
-    one-took done told begins options (ports_unsaid c.args.unsaid) left rest c.run_over.result
-    (seen-agree options (ports_of c.in_ok-ports.ports) (ports_unsaid c.args.unsaid) c.in_ok-ports.ensures
+    one-took done told begins options (ports_unsaid c.args.reading.unsaid) left rest c.run_over.result
+    (seen-agree options (ports_of c.in_ok-ports.ports) (ports_unsaid c.args.reading.unsaid) c.in_ok-ports.ensures
     lines_themselves done told begins left rest c.run_over.result
     (one-by c.args.options c.in_ok-ports.ports c.in_ok-lines.lines c.in_ok-lines.ensures lines_themselves
-    done told begins c.run_over.result left rest (c.run_over.ensures.answer law start (λ item any. can item))))
+    done told begins c.run_over.result left rest (c.run_over.ensures.answer law start (λ item any. can item tt))))

@@ -1,6 +1,7 @@
 use Rattle.std.proofs.Common.{IfSome, subst}
 use Rattle.afdx_police.specs.Rule.{Rule}
 use Rattle.afdx_input_sources.specs.Claims.{one_port}
+use Rattle.afdx_input_runs.specs.Arrivals.{TakesFrames}
 use Rattle.afdx_replay.specs.policing.Input.{Polices}
 use Rattle.afdx_replay.proofs.ReplaysLemmas.{ends-in}
 use Rattle.afdx_replay.proofs.policing.input_command.police_input.Goals as goal
@@ -18,7 +19,7 @@ returns-clause-polices g c commanded = (
       c.end_input.ensures.told c.end_input.ensures.silent c.police_over-answer.ensures.ended
       c.police_over-answer.ensures.read c.police_over-answer.ensures.write,
   subst (λ (rule : Rule). IfSome (g.A.RunInput.known c.args.input.now) (λ bytes. Polices rule
-      (g.A.RunInput.Takes c.args.options (one_port rule.port) bytes c.police_over-answer.new.input)
+      (g.A.RunInput.Takes TakesFrames c.args.options (one_port rule.port) bytes c.police_over-answer.new.input)
       (g.O.Sink.written c.args.output.now) (g.O.Sink.written c.police_over-answer.new.output)
       c.police_over-answer.result)) c.in-Some.ensures.given c.police_over-answer.ensures.polices,
 )

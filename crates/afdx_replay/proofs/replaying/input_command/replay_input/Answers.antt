@@ -1,5 +1,6 @@
 use Rattle.std.proofs.Common.{refl, inl, inr}
 use Rattle.afdx_command_tables.specs.Taking.{described_of}
+use Rattle.afdx_replay.specs.cascading.Input.{AreThere}
 use Rattle.afdx_replay.proofs.PlacedLemmas.{are-there}
 use Rattle.afdx_replay.proofs.ReplaysLemmas.{ends-in}
 use Rattle.afdx_replay.proofs.replaying.input_command.replay_input.Goals as goal
@@ -42,7 +43,7 @@ returns-in-Err-take_described-clause-replays g c =
 pub replay_taken-answer-requires-clause-there : goal.replay_taken-answer-requires-clause-there
 replay_taken-answer-requires-clause-there g c =
     let placed = c.read_placed.new.options in
-    are-there (λ ss options. g.A.SitedInput.AreThere ss options) placed
+    are-there (λ ss options. AreThere ss g.A.RunInput.CanCome options) placed
     (λ d. g.P.Placing.ArePlaced d c.args.settings.options placed)
     c.in-Ok.described (described_of c.in-Ok-take_described.taken) c.in-Ok-take_described.ensures.same
     c.in-Ok.ensures.read.lawful (λ ss are is. c.places.ensures.there ss c.args.settings.options placed are is)
