@@ -17,3 +17,6 @@ pub mod BegunLemmas
 pub mod HistoryLemmas
 pub mod CountsLemmas
 pub mod NewLemmas
+pub mod MemberLemmas
+pub mod OneLemmas
+pub mod SenderRowLemmas

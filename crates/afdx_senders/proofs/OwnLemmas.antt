@@ -160,7 +160,8 @@ module _ (z : Setup) (x : SiteFrame) (xs : List Arrival) (at : ByPlace) (own : A
     where
       by : (o : Option Followed) → at place ≡ o →
           found_at x o ≡ found_among (source_at z place) (own_frames z place xs) a
-      by None is = ap (λ (s : Option Source). found_among s (own_frames z place xs) a) (sym (none_there z xs at own place is))
+      by None is =
+          ap (λ (s : Option Source). found_among s (own_frames z place xs) a) (sym (none_there z xs at own place is))
       by (Some f) is =
           ap (λ (l : List Came). found_among (Some f.source) l a) (own.came place f is)
           ∙ ap (λ (s : Option Source). found_among s (own_frames z place xs) a)
