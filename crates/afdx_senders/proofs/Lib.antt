@@ -20,3 +20,4 @@ pub mod NewLemmas
 pub mod MemberLemmas
 pub mod OneLemmas
 pub mod SenderRowLemmas
+pub mod QuietLemmas

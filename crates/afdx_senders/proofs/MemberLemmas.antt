@@ -26,11 +26,10 @@ use Rattle.afdx_senders.specs.Lines.{FoundBy, Line, OfSource, line_at, lines_at}
 use Rattle.afdx_senders.specs.SenderLaws.{AreNumbered, AreTwo}
 use Rattle.afdx_senders.specs.Setups.{Setup, came_from, is_of, own_frames, source_at, whose}
 use Rattle.afdx_senders.specs.Sites.{is_sent_at, is_site, named_as, sent_as, sent_by, sent_in, source_of}
-use Rattle.afdx_senders.specs.declared.sites.SourceOf.{SourceOf}
 use Rattle.afdx_senders.specs.declared.sites.SourceOf.TheVariants.{Elsewhere, Nobody}
-use Rattle.afdx_senders.specs.declared.sites.SourceOf.TheVariants.{Source as OfSourceAt, Unknown}
+use Rattle.afdx_senders.specs.declared.sites.SourceOf.TheVariants.{Source as OfSourceAt}
 use Rattle.afdx_senders.proofs.ListLemmas.{all_joined, all_mapped, all_passed}
-use Rattle.afdx_senders.proofs.OwnLemmas.{port_same, terms_of}
+use Rattle.afdx_senders.proofs.OwnLemmas.{of_place, port_same, terms_of}
 
 -- ---- among all frames this one came, after these
 
@@ -136,12 +135,6 @@ module _ (z : Setup) (xs : List Arrival) where
   unfolding IsAt
   all_at [] among = tt
   all_at (y ∷ ys) among = ((ys, among ys y (inl (refl, refl))), all_at ys (λ p x at. among p x (inr at)))
-
-  of_place : (place : ℕ) (w : SourceOf) → is_of place w ≡ true → w ≡ OfSourceAt place
-  of_place place (OfSourceAt k) is = ap OfSourceAt (eqb-true k place is)
-  of_place place Elsewhere is = absurd (cc)
-  of_place place Unknown is = absurd (cc)
-  of_place place Nobody is = absurd (cc)
 
   own_are : (place : ℕ) → AllByRecursion (IsOwn place) (own_frames z place xs)
   unfolding own_frames

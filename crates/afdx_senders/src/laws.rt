@@ -1,6 +1,6 @@
 //! Laws over the definitions.
 
-ghost use Rattle.afdx_senders.specs.SenderLaws.{EarlyLinesStay, WhatIsToldIsEarly};
+ghost use Rattle.afdx_senders.specs.SenderLaws.{EarlyLinesStay, NoLineIsQuiet, WhatIsToldIsEarly};
 ghost use Rattle.afdx_senders.specs.SenderLaws.{WhatIsToldIsFirst, WhatIsToldIsOne};
 ghost use Rattle.afdx_senders.specs.SenderRows.{WorkedSenderRows};
 
@@ -27,4 +27,10 @@ pub fn what_is_told_is_one()
 /// All lines, and what is counted, of some short recordings.
 pub fn sender_rows_are_worked()
     ensures { WorkedSenderRows }
+{}
+
+/// There is no line exactly where nothing is judged of any sender that is judged, and no frame is
+/// of no source at a port that was recorded.
+pub fn no_line_is_quiet()
+    ensures { NoLineIsQuiet }
 {}
