@@ -14,7 +14,7 @@ use Rattle.afdx_senders.specs.Lines.{FoundBy, Line, lines_at}
 use Rattle.afdx_senders.specs.Setups.{Setup, whose}
 use Rattle.afdx_senders.specs.Telling.{AreTold, ComeFrom, HaveBegun, IsBehind, known_lines}
 use Rattle.afdx_senders.proofs.EarlyLemmas.{singles_more}
-use Rattle.afdx_senders.proofs.ListLemmas.{all_weaker, parts_swap, passes}
+use Rattle.afdx_senders.proofs.ListLemmas.{all_joined, all_weaker, parts_swap, passes}
 use Rattle.afdx_senders.proofs.TellingLemmas.{all_behind}
 
 -- what is found of a frame when it comes has its time
@@ -27,11 +27,6 @@ pub when_late : (z : Setup) (time : ℕ) (past : List Arrival) (x : Arrival) →
     AllByRecursion (λ y. is_early (Some time) y ≡ false) (lines_when z past x)
 unfolding lines_when
 when_late z time past x late = found_late time x (found_when z past x (whose z x)) late
-
-all_both : {X : Type 0} (P : X → Type 0) (xs ys : List X) → AllByRecursion P xs → AllByRecursion P ys →
-    AllByRecursion P (xs ++ ys)
-all_both P [] ys h k = k
-all_both P (x ∷ xs) ys h k = (h.0, all_both P xs ys h.1 k)
 
 -- the lines of more frames as they come
 record MoreComing (z : Setup) (before : Option ℕ) (more xs : List Arrival) : Type 0 where
@@ -49,7 +44,7 @@ more_from z time (x ∷ more) xs h =
     record {
       lines = own ++ rest.lines;
       are = ap (λ (l : List Line). own ++ l) rest.are ∙ sym (append_assoc own rest.lines (lines_coming z xs));
-      late = all_both (λ y. is_early (Some time) y ≡ false) own rest.lines (when_late z time (more ++ xs) x h.0)
+      late = all_joined (λ y. is_early (Some time) y ≡ false) own rest.lines (when_late z time (more ++ xs) x h.0)
           rest.late;
     }
 
@@ -111,7 +106,8 @@ has_begun z before xs told held is more from =
     record {
       rest = held ++ (coming.lines ++ later);
       are =
-          subst (λ (l : List Line). IsPermutation ((held ++ (coming.lines ++ later)) ++ told) (l ++ all)) (sym coming.are)
+          subst (λ (l : List Line). IsPermutation ((held ++ (coming.lines ++ later)) ++ told) (l ++ all))
+          (sym coming.are)
           (IsPermutation-trans ((held ++ (coming.lines ++ later)) ++ told)
           ((coming.lines ++ lines_coming z xs) ++ (soon ++ later)) ((coming.lines ++ lines_coming z xs) ++ all)
           (joined (lines_coming z xs) told held coming.lines soon later is.are)
@@ -124,5 +120,5 @@ has_begun z before xs told held is more from =
           All-append (λ x. IsBehind x told) held (coming.lines ++ later) is.behind
           (all_behind before told (coming.lines ++ later) is.early
           (All-from_recursion (λ x. early x ≡ false) (coming.lines ++ later)
-          (all_both (λ x. early x ≡ false) coming.lines later coming.late (not_passed early all))));
+          (all_joined (λ x. early x ≡ false) coming.lines later coming.late (not_passed early all))));
     }

@@ -17,3 +17,7 @@ pub mod BegunLemmas
 pub mod HistoryLemmas
 pub mod CountsLemmas
 pub mod NewLemmas
+pub mod MemberLemmas
+pub mod OneLemmas
+pub mod SenderRowLemmas
+pub mod QuietLemmas

@@ -128,7 +128,8 @@ module _ {X : Type 0} where
       by true e rest = (e, rest)
       by false e rest = rest
 
-  pub all_weaker : {P Q : X → Type 0} → ((x : X) → P x → Q x) → (xs : List X) → AllByRecursion P xs → AllByRecursion Q xs
+  pub all_weaker : {P Q : X → Type 0} → ((x : X) → P x → Q x) → (xs : List X) → AllByRecursion P xs →
+      AllByRecursion Q xs
   all_weaker f [] h = tt
   all_weaker f (x ∷ xs) h = (f x h.0, all_weaker f xs h.1)
 
@@ -158,3 +159,25 @@ module _ {X : Type 0} where
       subst (λ (l : List X). IsPermutation l (b ++ (a ++ c))) (append_assoc a b c)
       (subst (λ (l : List X). IsPermutation ((a ++ b) ++ c) l) (append_assoc b a c)
       (IsPermutation-append_left c (a ++ b) (b ++ a) (IsPermutation-append_comm a b)))
+
+-- ---- what is so of each
+
+pub all_joined : {X : Type 0} (P : X → Type 0) (xs ys : List X) → AllByRecursion P xs → AllByRecursion P ys →
+    AllByRecursion P (xs ++ ys)
+all_joined P [] ys h k = k
+all_joined P (x ∷ xs) ys h k = (h.0, all_joined P xs ys h.1 k)
+
+pub all_mapped : {X Y : Type 0} (P : Y → Type 0) (f : X → Y) (xs : List X) → AllByRecursion (λ x. P (f x)) xs →
+    AllByRecursion P (map f xs)
+all_mapped P f [] h = tt
+all_mapped P f (x ∷ xs) h = (h.0, all_mapped P f xs h.1)
+
+pub all_passed : {X : Type 0} (P Q : X → Type 0) (p : X → Bool) (xs : List X) → ((x : X) → P x → p x ≡ true → Q x) →
+    AllByRecursion P xs → AllByRecursion Q (filter p xs)
+all_passed P Q p [] f h = tt
+all_passed P Q p (x ∷ xs) f h = by (p x) refl (all_passed P Q p xs f h.1)
+  where
+    by : (b : Bool) → p x ≡ b → AllByRecursion Q (filter p xs) →
+        AllByRecursion Q (if b then x ∷ filter p xs else filter p xs)
+    by true e rest = (f x h.0 e, rest)
+    by false e rest = rest

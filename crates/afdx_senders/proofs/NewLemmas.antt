@@ -45,7 +45,7 @@ no_singles (Some s) =
     whole : Waiting → Bool
     whole y = not (is_cut_of s [] y)
 
-none_below : (z : Setup) (n : ℕ) → singles_below z [] n ≡ []
+pub none_below : (z : Setup) (n : ℕ) → singles_below z [] n ≡ []
 unfolding singles_below own_frames
 none_below z zero = refl
 none_below z (suc n) = ap₂ (λ (a b : List Line). a ++ b) (no_singles (source_at z n)) (none_below z n)

@@ -19,7 +19,7 @@ use Rattle.afdx_senders.specs.Order.{side_rank, spot_of}
 
 -- ---- ranks
 
-side_small : (side : Side) → side_rank side ≤ 1
+pub side_small : (side : Side) → side_rank side ≤ 1
 side_small A = omega arith
 side_small B = omega arith
 

@@ -109,7 +109,8 @@ told_over f y port is =
 
 -- ---- of all sources
 
-below_same : (at : ByPlace) (place n : ℕ) (g : Followed) → n ≤ place → over_below (put_at place g at) n ≡ over_below at n
+below_same : (at : ByPlace) (place n : ℕ) (g : Followed) → n ≤ place →
+    over_below (put_at place g at) n ≡ over_below at n
 unfolding over_below
 below_same at place zero g past = refl
 below_same at place (suc n) g past =
@@ -130,14 +131,16 @@ below_put at place (suc n) f g extra within is more =
     rest : List Line
     rest = over_below at n
 
-    by : (b : Bool) → nat_eq n place ≡ b → (place < n → IsPermutation (over_below (put_at place g at) n) (extra ++ rest))
+    by : (b : Bool) → nat_eq n place ≡ b
+        → (place < n → IsPermutation (over_below (put_at place g at) n) (extra ++ rest))
         → IsPermutation (over_of (if b then Some g else at n) ++ over_below (put_at place g at) n)
         (extra ++ (over_of (at n) ++ rest))
     by true same below =
         let e : n ≡ place = eqb-true n place same in
         subst (λ (l : List Line). IsPermutation (over_of (Some g) ++ l) (extra ++ (over_of (at n) ++ rest)))
         (sym (below_same at place n g (omega (arith, e))))
-        (subst (λ (l : List Line). IsPermutation (over_of (Some g) ++ rest) l) (append_assoc extra (over_of (at n)) rest)
+        (subst (λ (l : List Line). IsPermutation (over_of (Some g) ++ rest) l)
+        (append_assoc extra (over_of (at n)) rest)
         (subst (λ (o : Option Followed). IsPermutation (over_of (Some g) ++ rest) ((extra ++ over_of o) ++ rest))
         (sym (ap at e ∙ is))
         (IsPermutation-append_left rest (over_of (Some g)) (extra ++ over_of (Some f)) more)))
@@ -230,7 +233,8 @@ module _ (z : Setup) (before : Option ℕ) (xs : List Arrival) where
             (sym (append_assoc single (lines_told z.tables past) (over_below at n)))
             (IsPermutation-trans (over_below (put_at s.place (told_next f s.waited) mid) n) (single ++ over_below mid n)
             (single ++ (lines_told z.tables past ++ over_below at n))
-            (below_put mid s.place n f (told_next f s.waited) single (slice_get_within z.tables.links s.place s.row is.there)
+            (below_put mid s.place n f (told_next f s.waited) single
+            (slice_get_within z.tables.links s.place s.row is.there)
             is.is_followed
             (told_over f s.waited (port_of z.tables s.row.from) (port_same z s.place f.source s.row t is.there)))
             (IsPermutation-append_right single (over_below mid n) (lines_told z.tables past ++ over_below at n)

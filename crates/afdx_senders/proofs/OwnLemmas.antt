@@ -76,7 +76,13 @@ module _ (z : Setup) (xs : List Arrival) (at : ByPlace) (own : AreOwn z xs at) w
 
 -- ---- one more frame
 
-own_next : (z : Setup) (place : ℕ) (x : Arrival) (xs : List Arrival) (b : Bool) → is_of place (whose z x) ≡ b →
+pub of_place : (place : ℕ) (w : SourceOf) → is_of place w ≡ true → w ≡ OfSource place
+of_place place (OfSource k) is = ap OfSource (eqb-true k place is)
+of_place place Elsewhere is = absurd (cc)
+of_place place Unknown is = absurd (cc)
+of_place place Nobody is = absurd (cc)
+
+pub own_next : (z : Setup) (place : ℕ) (x : Arrival) (xs : List Arrival) (b : Bool) → is_of place (whose z x) ≡ b →
     own_frames z place (x ∷ xs) ≡ (if b then came_from x ∷ own_frames z place xs else own_frames z place xs)
 unfolding own_frames
 own_next z place x xs b is =
@@ -160,7 +166,8 @@ module _ (z : Setup) (x : SiteFrame) (xs : List Arrival) (at : ByPlace) (own : A
     where
       by : (o : Option Followed) → at place ≡ o →
           found_at x o ≡ found_among (source_at z place) (own_frames z place xs) a
-      by None is = ap (λ (s : Option Source). found_among s (own_frames z place xs) a) (sym (none_there z xs at own place is))
+      by None is =
+          ap (λ (s : Option Source). found_among s (own_frames z place xs) a) (sym (none_there z xs at own place is))
       by (Some f) is =
           ap (λ (l : List Came). found_among (Some f.source) l a) (own.came place f is)
           ∙ ap (λ (s : Option Source). found_among s (own_frames z place xs) a)

@@ -15,7 +15,7 @@ use Rattle.afdx_lawful.specs.Sources.{Source}
 use Rattle.afdx_senders.specs.Followed.{ByPlace, Followed, due_at, put_at, told_next}
 use Rattle.afdx_senders.specs.Lines.{AddsLines, Line, line_of, lines_single}
 use Rattle.afdx_senders.specs.Order.{AreNotBefore, IsBefore, is_before, rank_of}
-use Rattle.afdx_senders.specs.Settling.{AreSources, AreSteps, IsEnd, IsSourceOf, IsStep, Settled, Step, TakesOf, after_steps, lines_told}
+use Rattle.afdx_senders.specs.Settling.{AreSources, AreSteps, IsEnd, IsSourceOf, IsStep, Step, TakesOf, after_steps, lines_told}
 use Rattle.afdx_senders.specs.Standing.{SendersStand, awaited}
 use Rattle.afdx_senders.specs.declared.sender_line.SenderLine.{SenderLine}
 use Rattle.afdx_senders.specs.declared.senders.Senders.{Senders}
@@ -137,10 +137,3 @@ pub takes_of : (before : Option ℕ) (held rest : List SenderLine) (line : Optio
     → TakesOf before held line rest
 takes_of before held rest (Some x) first in_time moved none same = (in_time, moved, first)
 takes_of before held rest None first in_time moved none same = (none, same)
-
-pub stands_then : (at : ByPlace) (t : Rows) (before : Option ℕ) (steps : List Step) (old new : Senders) →
-    Settled t before at steps old
-    → (SendersStand (after_steps at steps) old → SendersStand (after_steps at steps) new)
-    → Settled t before at steps new
-stands_then at t before steps old new is stands =
-    record { are = is.are; stand = stands is.stand; none = is.none }

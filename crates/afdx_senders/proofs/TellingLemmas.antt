@@ -8,23 +8,18 @@ use Rattle.std.proofs.lemmas.List.Sorted.{IsPermutation-map, IsPermutation-middl
 use Rattle.std.specs.List.{All}
 use Rattle.std.specs.List.Sorted.{IsPermutation}
 use Rattle.std.specs.Prelude.{filter, Option, Some, None}
-use Rattle.afdx_frame.specs.declared.link.Side.{Side}
-use Rattle.afdx_frame.specs.declared.link.Side.TheVariants.{A, B}
 use Rattle.afdx_police.specs.Arrival.{Arrival}
 use Rattle.afdx_senders.specs.AllLines.{all_lines, all_singles, is_early, lines_coming}
 use Rattle.afdx_senders.specs.Lines.{AddsLines, Line, line_of}
-use Rattle.afdx_senders.specs.Order.{AreInType, AreNotBefore, side_rank}
+use Rattle.afdx_senders.specs.Order.{AreInType, AreNotBefore}
 use Rattle.afdx_senders.specs.Settling.{TakesOf}
 use Rattle.afdx_senders.specs.Setups.{Setup}
 use Rattle.afdx_senders.specs.Telling.{AreTold, AreToldBefore, HasNumbers, IsBehind, IsEarly, known_lines, rank}
 use Rattle.afdx_senders.specs.declared.sender_line.SenderLine.{SenderLine}
+use Rattle.afdx_senders.proofs.OrderLemmas.{side_small}
 use Rattle.afdx_senders.proofs.ListLemmas.{filter_all, filter_none, filter_permutation, filter_twice, parts_swap}
 
 -- ---- a line of a moment before a time, and one of a moment at it or later
-
-side_small : (side : Side) → side_rank side ≤ 1
-side_small A = omega arith
-side_small B = omega arith
 
 comes_behind : (before : Option ℕ) (x y : Line) → IsEarly before y → is_early before x ≡ false → rank y ≤ rank x
 comes_behind None x y early late = absurd (true≢false late)

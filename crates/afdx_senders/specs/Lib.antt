@@ -13,3 +13,4 @@ pub mod Settling
 pub mod SenderCounts
 pub mod History
 pub mod SenderLaws
+pub mod SenderRows

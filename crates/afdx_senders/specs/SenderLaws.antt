@@ -1,12 +1,15 @@
 -- Laws over the lines of the senders of a switch. Lists have the newest first.
-use Rattle.std.specs.Prelude.{◌≡◌, ℕ, ◌<◌, Option, Some, List, [], ◌∷◌, ◌++◌, filter}
+use Rattle.std.specs.Prelude.{◌≡◌, ◌↔◌, ℕ, ◌<◌, Option, Some, None, List, [], ◌∷◌, ◌++◌, filter}
 use Rattle.std.specs.List.{All}
 use Rattle.afdx_conform.specs.Levels.{parts}
+use Rattle.afdx_lawful.specs.Judged.{judged_source}
+use Rattle.afdx_lawful.specs.Sources.{Came, Source}
 use Rattle.afdx_police.specs.Arrival.{Arrival}
 use Rattle.afdx_senders.specs.AllLines.{all_lines, is_early}
 use Rattle.afdx_senders.specs.History.{HaveTold}
 use Rattle.afdx_senders.specs.Lines.{Line}
-use Rattle.afdx_senders.specs.Setups.{Setup, ending}
+use Rattle.afdx_senders.specs.Setups.{Setup, ending, own_frames, source_at, whose}
+use Rattle.afdx_senders.specs.Strays.{stray_of}
 use Rattle.afdx_senders.specs.Telling.{AreToldBefore, AreToldEarly, ComeFrom, HaveBegun, IsEndSince}
 use Rattle.afdx_senders.specs.declared.senders.Senders.{Senders}
 
@@ -60,3 +63,21 @@ WhatIsToldIsOne =
     AreToldBefore z before xs told →
     AreToldBefore z before xs others →
     told ≡ others
+
+-- ---- no line
+
+-- nothing is judged of these frames of a source
+pub record IsQuiet (s : Source) (xs : List Came) : Type 0 where
+  pub coming : (judged_source s xs).coming ≡ []
+  pub on_a : (judged_source s xs).on_a ≡ []
+  pub on_b : (judged_source s xs).on_b ≡ []
+
+-- nothing is of any sender that is judged, and no frame is of none at a port that was recorded
+pub record AreQuiet (z : Setup) (xs : List Arrival) : Type 0 where
+  pub sources : (place : ℕ) (s : Source) → source_at z place ≡ Some s →
+      IsQuiet s (own_frames z place xs)
+  pub strays : All (λ x. stray_of (whose z x) x.bytes ≡ None) xs
+
+-- there is no line exactly where that is so
+abbrev pub NoLineIsQuiet : Type 0
+NoLineIsQuiet = (z : Setup) (xs : List Arrival) → (all_lines z xs ≡ []) ↔ AreQuiet z xs

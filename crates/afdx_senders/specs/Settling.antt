@@ -7,7 +7,7 @@ use Rattle.afdx_law_bounds.specs.Tables.{port_of}
 use Rattle.afdx_lawful.specs.Courses.{next_told}
 use Rattle.afdx_lawful.specs.Partners.{Waiting}
 use Rattle.afdx_senders.specs.Followed.{ByPlace, Followed, put_at, told_next}
-use Rattle.afdx_senders.specs.Lines.{AddsLines, Line, lines_single}
+use Rattle.afdx_senders.specs.Lines.{Line, lines_single}
 use Rattle.afdx_senders.specs.Order.{AreNotBefore, IsBefore, rank_of}
 use Rattle.afdx_senders.specs.Standing.{IsDue, IsNothingDue, SendersStand}
 use Rattle.afdx_senders.specs.declared.sender_line.SenderLine.{SenderLine}
@@ -73,9 +73,3 @@ abbrev pub TakesOf : Option ℕ → List SenderLine → Option SenderLine → Li
 TakesOf before held None rest = AreNotBefore before held × (rest ≡ held)
 TakesOf before held (Some x) rest = IsBefore before x × IsPermutation held (x ∷ rest)
     × All (λ y. rank_of x ≤ rank_of y) rest
-
--- the same, once these lines are added
-abbrev pub TakesFirst : Option ℕ → List Line → List SenderLine → Option SenderLine
-    → List SenderLine → Type 0
-TakesFirst before lines old line rest =
-    (held : List SenderLine) × AddsLines lines old held × TakesOf before held line rest

@@ -46,8 +46,11 @@ impl<'a> Senders<'a> {
         tables: &'a Tables,
         recorded: RecordedPorts,
     ) -> Result<Senders<'a>, AllocError>
-        ensures { (k : What) (before : Option ℕ) → IfOk result (λ senders.
+        ensures nothing { (k : What) (before : Option ℕ) → IfOk result (λ senders.
             HaveTold (setup_with tables.now (recorded_in recorded) k nobody) before [] [] senders) }
+        ensures tables { IfOk result (λ senders. senders.sites.tables.now ≡ tables.now) }
+        ensures room { IfOk result (λ senders.
+            length senders.kept.slots.items ≡ length tables.now.links) }
     {
         let sites = SenderSites::new(alloc, tables, recorded)?;
         let kept = FollowedSources::new(alloc, tables.link_count())?;
@@ -77,9 +80,9 @@ impl<'a> Senders<'a> {
         self.kept.put(place, source);
     }
 
-    /// A frame came at a port of the switch. No earlier one than those before it; and `next` told
+    /// A frame came at a port of the switch, no earlier than those before it; `next` was asked for
     /// what is of moments before its time. Fails only out of memory. Then what was told is the
-    /// first of all lines, this frame's too, and nothing else is to be asked.
+    /// first of all lines, whatever comes from that time on, and nothing else is to be asked.
     pub fn came(&mut self, x: &SiteFrame<'_>) -> Result<(), AllocError>
         ensures came { (z : Setup) (xs : List Arrival) (told : List Line) →
             HaveTold z (Some x.now.time) xs told self.old →
@@ -92,9 +95,10 @@ impl<'a> Senders<'a> {
     }
 
     /// The next line of all, if its moment lies before that time, in ns; without a time whenever it
-    /// is. None: all of these are told. Times never go back. `end` is the time in ns at which the
-    /// recordings end, once it is known; before, they must not end sooner than `before`. Fails only
-    /// out of memory. Then what was told is the first of all lines, and nothing else is to be asked.
+    /// is. None: just the lines of moments before that time are told. Times never go back. `end` is
+    /// the time in ns at which the recordings end, once it is known; before, they must not end
+    /// sooner than `before`. Fails only out of memory. Then what was told is the first of all
+    /// lines, whatever else comes, and nothing else is to be asked.
     pub fn next(
         &mut self,
         before: Option<u64>,

@@ -3,8 +3,8 @@ use Rattle.afdx_senders.specs.Sites.{recorded_in}
 use Rattle.afdx_senders.proofs.NewLemmas.{at_rest}
 use Rattle.afdx_senders.proofs.senders.Senders.new.Goals as goal
 
-pub returns : goal.returns
-returns c k before =
+pub returns-clause-nothing : goal.returns-clause-nothing
+returns-clause-nothing c k before =
     at_rest c.args.tables.now (recorded_in c.args.recorded) k before _ (record {
       tables = c.in_ok-sites.ensures.tables;
       recorded = ap recorded_in c.in_ok-sites.ensures.recorded;
