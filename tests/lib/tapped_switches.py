@@ -58,14 +58,21 @@ def switches_of(config: str) -> dict[str, dict[int, str]]:
     return found
 
 
+def listed_in(listing: str) -> Iterator[Seen]:
+    """What came from systems, line by line."""
+    with open(listing, encoding="ascii") as file:
+        for line in file:
+            _, time, side, switch, port, digits = line.split()
+            tap, content = Tap(switch, side, int(port), False), bytes.fromhex(digits)[:-FCS]
+            yield Seen(int(time), tap, content)
+
+
 def seen_in(config: str, listing: str) -> Iterator[Seen]:
     """What came and what left, in no order."""
     switches, frames = switches_of(config), {}
-    with open(listing, encoding="ascii") as file:
-        for number, line in enumerate(file, 1):
-            _, time, side, switch, port, digits = line.split()
-            frames[number] = bytes.fromhex(digits)[:-FCS]
-            yield Seen(int(time), Tap(switch, side, int(port), False), frames[number])
+    for number, seen in enumerate(listed_in(listing), 1):
+        frames[number] = seen.content
+        yield seen
     words = [os.environ["AFDX"], "replay", config, listing]
     with subprocess.Popen(words, stdout=subprocess.PIPE, encoding="ascii") as run:
         assert run.stdout is not None

@@ -34,9 +34,9 @@ class Early:
         self.named, self.over_rate, self.sites = named, over_rate, sites
         self.parts = [(np.zeros(0, np.int32), np.zeros(0, np.int64))]
         others, end = [], 0
-        for text in blocks_of(file, ended=True):
-            end += len(text)
-            others += self.take(Block(text))
+        for block in blocks_of(file, ended=True):
+            end += int(block.ends[-1]) + 1
+            others += self.take(block)
         file.seek(end)
         rest = file.read()
         if not HEAD.startswith(rest[: len(HEAD)]):
@@ -65,4 +65,4 @@ class Early:
         amounts, _ = block.numbers(after + 1)
         self.parts.append((self.lines_of(numbers), amounts))
         others = np.flatnonzero(~is_early)
-        return [block.text[block.starts[n] : block.ends[n]] for n in others]
+        return [block.text(block.starts[n], block.ends[n]) for n in others]

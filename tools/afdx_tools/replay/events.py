@@ -56,16 +56,8 @@ class Events:
 
     def read(self, file: IO[bytes], report: Callable[[int], None] = lambda line: None) -> None:
         """Takes the lines of `replay`, and joins them. A last line that was cut doesn't count."""
-        rest = b""
-        for text in blocks_of(file, ended=True):
-            whole = rest + text if rest else text
-            cut = whole.rfind(b"\n", 0, -1) + 1
-            cut = cut if whole[cut] == LETTERS["D"] else len(whole)
-            rest = whole[cut:]  # a departure: the line after it says what the receiver did
-            if cut:
-                self.take(whole[:cut] if rest else whole, report)
-        if rest:
-            self.take(rest, report)
+        for block in blocks_of(file, ended=True, joined=b"D"):
+            self.take(block, report)
         joined = {name: np.concatenate([p[name] for p in self.parts]) for name in self.parts[0]}
         self.parts = []
         self.line, self.time, self.port = joined["line"], joined["time"], joined["port"]
@@ -93,9 +85,8 @@ class Events:
         self.early = Early(file, self.named, over_rate, self.sites)
         return self.early.fault
 
-    def take(self, text: bytes, report: Callable[[int], None]) -> None:
-        """Takes a block's lines."""
-        block = Block(text)
+    def take(self, block: Block, report: Callable[[int], None]) -> None:
+        """Takes a block's lines; behind a departure stands what the receiver did."""
         if not KNOWN[block.heads].all():
             raise Refused("the program wrote a line that this tool doesn't know")
         lines = self.judged(block)

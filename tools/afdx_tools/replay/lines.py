@@ -29,30 +29,35 @@ def keep_memory() -> None:
 
 
 class Readable(Protocol):
-    """What gives bytes, at most so many at a time, none at its end."""
+    """What fills a room with bytes, and says how many came: fewer, or none, only at its end."""
 
-    def read(self, most: int, /) -> bytes:
-        """Some bytes."""
+    def readinto(self, room: memoryview, /) -> int | None:
+        """The next bytes."""
         ...
 
 
 class Block:
     """Whole lines of text: where each begins and ends, and the letter that it begins with; of each
-    place of the text the `eights` from there on."""
+    place of the text the `eights` from there on. The text is copied, but where its first `size`
+    bytes count, and padding stands behind them."""
 
-    def __init__(self, text: bytes) -> None:
-        self.text = text
-        self.bytes = np.frombuffer(text + PADDING, np.uint8)
+    def __init__(self, text: bytes | memoryview, size: int | None = None) -> None:
+        whole = bytes(text) + PADDING if size is None else text
+        self.bytes = np.frombuffer(whole, np.uint8)
         self.eights = windows(self.bytes)
-        self.ends = np.flatnonzero(self.bytes == LINE_FEED)
+        self.ends = np.flatnonzero(self.bytes[:size] == LINE_FEED)
         self.starts = np.concatenate((np.zeros(1, np.int64), self.ends[:-1] + 1))
         self.heads = self.bytes[self.starts]
+
+    def text(self, begin: int, end: int) -> bytes:
+        """The text between two places."""
+        return self.bytes[begin:end].tobytes()
 
     def first(self, count: int) -> Block:
         """At most so many of the lines."""
         if len(self.ends) <= count:
             return self
-        return Block(self.text[: self.ends[count - 1] + 1] if count > 0 else b"")
+        return Block(self.text(0, int(self.ends[count - 1]) + 1) if count > 0 else b"")
 
     def at(self, places: np.ndarray) -> np.ndarray:
         """The bytes at these places; zeros after the last one, for as far as numbers are read from
@@ -76,22 +81,42 @@ class Block:
         Words are told apart by their last eight bytes; the lines must have as many."""
         keys = self.eights[self.ends[lines] - 8]
         _, first, places = np.unique(keys, return_index=True, return_inverse=True)
-        found = [self.text[self.starts[n] : self.ends[n]].split(b" ")[-1] for n in lines[first]]
+        found = [self.text(self.starts[n], self.ends[n]).split(b" ")[-1] for n in lines[first]]
         return [word.decode("ascii", "replace") for word in found], places
 
 
-def blocks_of(file: Readable, each: int = EACH, ended: bool = False) -> Iterator[bytes]:
-    """The text of a file in pieces of whole lines. A last line without a line feed gets one, or is
-    left out where all lines should be `ended`. A piece that no line ends in gets one too: such a
-    line is too long for the program."""
-    rest = b""
-    while part := file.read(each):
-        cut = part.rfind(b"\n") + 1
+def blocks_of(
+    file: Readable, each: int = EACH, ended: bool = False, joined: bytes = b""
+) -> Iterator[Block]:
+    """The text of a file in blocks, each of use until the next one is asked for. A last line
+    without a line feed gets one, or is left out where all lines should be `ended`. A block that no
+    line ends in gets one too: such a line is too long for the program. A line that begins with what
+    is `joined` to the next one stands in a block with it."""
+    room, held = bytearray(each + 1 + len(PADDING)), 0
+    with memoryview(room) as view:
+        while read := file.readinto(view[held:each]):
+            end = held + read
+            cut = room.rfind(b"\n", 0, end) + 1
+            last = room.rfind(b"\n", 0, max(cut - 1, 0)) + 1
+            if cut and joined and room.startswith(joined, last):
+                cut = last
+            if not cut and end == each:
+                view[each] = LINE_FEED
+                cut = end = each + 1
+            rest = bytes(view[cut:end])
+            if cut:
+                yield padded(view, cut)
+            held = len(rest)
+            view[:held] = rest
+        cut = room.rfind(b"\n", 0, held) + 1
+        if held > cut and not ended:
+            view[held] = LINE_FEED
+            cut = held + 1
         if cut:
-            yield rest + part[:cut]
-            rest = part[cut:]
-        else:
-            yield rest + part + b"\n"
-            rest = b""
-    if rest and not ended:
-        yield rest + b"\n"
+            yield padded(view, cut)
+
+
+def padded(room: memoryview, size: int) -> Block:
+    """The block of the first bytes of a room, behind which padding is put."""
+    room[size : size + len(PADDING)] = PADDING
+    return Block(room[: size + len(PADDING)], size)

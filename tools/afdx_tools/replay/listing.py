@@ -47,8 +47,9 @@ class Listing:
         source: Readable = file
         if not is_recorded:
             source = Hashed(file, digest.update)
-        for text in blocks_of(source):
-            block = Block(text) if is_recorded else Block(text).first(most - lines)
+        for block in blocks_of(source):
+            if not is_recorded:
+                block = block.first(most - lines)
             if len(block.ends):
                 part = columns_of(block, sites)
                 parts.append(part)
@@ -73,14 +74,14 @@ class Listing:
 class Hashed:
     """A file whose bytes, as they are read, are handed to `update` as well."""
 
-    def __init__(self, file: IO[bytes], update: Callable[[bytes], None]) -> None:
+    def __init__(self, file: Readable, update: Callable[[memoryview], None]) -> None:
         self.file, self.update = file, update
 
-    def read(self, most: int) -> bytes:
-        """Some bytes of the file."""
-        part = self.file.read(most)
-        self.update(part)
-        return part
+    def readinto(self, room: memoryview) -> int | None:
+        """The next bytes of the file."""
+        read = self.file.readinto(room)
+        self.update(room[:read])
+        return read
 
 
 def columns_of_none() -> dict[str, np.ndarray]:
