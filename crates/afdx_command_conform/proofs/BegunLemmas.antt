@@ -14,7 +14,8 @@ use Rattle.afdx_command_conform.specs.Keeping.{IsSomeUpTo}
 use Rattle.afdx_command_conform.specs.Lines.{AreInOrder, Due, dues_of}
 use Rattle.afdx_command_conform.specs.Telling.{lines_text}
 use Rattle.afdx_command_conform.specs.Told.{GoesOn, HasBegun, Stands}
-use Rattle.afdx_command_conform.specs.Written.{BeginsAll, BeginsWritten}
+use Rattle.afdx_command_conform.specs.AllLines.{AreSomeLines, BeginsAll}
+use Rattle.afdx_command_conform.specs.Written.{Begins}
 use Rattle.afdx_command_conform.specs.declared.judging.JudgingRun.{JudgingRun}
 use Rattle.afdx_command_conform.proofs.EarlyLemmas.{comes-later, last-first, stands-begun}
 use Rattle.afdx_command_conform.proofs.TellingLemmas.{text-append}
@@ -101,9 +102,9 @@ begun-all (Ok v) k until ended old new frames latest may h = tt
 begun-all (Err e) k until ended old new frames latest may (j, lines, begun, is, stands) =
     let first = stands-begun k frames until j lines latest stands (until_or k.1.until frames) [] may tt in
     record {
-      dues = first.0;
-      are_first = first.2;
-      begun = subst (λ l. AppendsFront old new (lines_text l)) first.1 begun;
+      lines = lines;
+      are_so = record { dues = first.0; are = first.1; are_first = first.2 };
+      begun = begun;
     }
 
 pub begun-last : {V E : Type 0} (r : Result V E) (k : Rows × Choices) (time : ℕ) (ended : Option ℕ) (end : ℕ)
@@ -114,15 +115,20 @@ begun-last (Ok v) k time ended end old new frames at h = tt
 begun-last (Err e) k time ended end old new frames at (j, lines, begun, is, stands) =
     let first = last-first k frames time j lines end (is ∙ at) stands in
     record {
-      dues = first.0;
-      are_first = first.2;
-      begun = subst (λ l. AppendsFront old new (lines_text l)) first.1 begun;
+      lines = lines;
+      are_so = record { dues = first.0; are = first.1; are_first = first.2 };
+      begun = begun;
     }
 
+-- of all lines the first are some of the first
+pub all-are-some : (k : Rows × Choices) (frames : List Frame) (old new : Option (List ℕ)) → BeginsAll k frames old new
+    → Begins old new (AreSomeLines k frames)
+all-are-some k frames old new h = record { lines = h.lines; are_so = inr h.are_so; begun = h.begun }
+
 pub on-err-all : {V E : Type 0} (r : Result V E) (k : Rows × Choices) (frames : List Frame) (old new : Option (List ℕ))
-    → OnErr r (BeginsAll k frames old new) → OnErr r (BeginsWritten k frames old new)
+    → OnErr r (BeginsAll k frames old new) → OnErr r (Begins old new (AreSomeLines k frames))
 on-err-all (Ok v) k frames old new h = tt
-on-err-all (Err e) k frames old new h = inr h
+on-err-all (Err e) k frames old new h = all-are-some k frames old new h
 
 -- ---- nothing is told
 

@@ -4,7 +4,6 @@ use Rattle.std.proofs.KnownBytes.{Appends-nil, Appends-trans}
 use Rattle.std.specs.Io.KnownBytes.{Appends}
 use Rattle.std.specs.Option.{option_or}
 use Rattle.std.specs.Prelude.{IfSome, Result, if◌then◌else◌, nat_lt, option_map}
-use Rattle.afdx_config.specs.Rows.{Rows}
 use Rattle.afdx_input_sources.specs.Causes.{Cause, cause_of, FailedRead, FailedWrite, NoMemory, BadInput}
 use Rattle.afdx_input_sources.specs.Engine.{Item}
 use Rattle.afdx_input_runs.specs.Arrivals.{By, ByCause}
@@ -24,134 +23,100 @@ use Rattle.afdx_input_lines.specs.declared.role.Role.TheVariants.{Came, Left}
 use Rattle.afdx_text.proofs.OutputLemmas.{front-more}
 use Rattle.afdx_text.specs.ConformLines.{conform_text}
 use Rattle.afdx_text.specs.Sinks.{IsOfOutput}
-use Rattle.afdx_command_conform.proofs.BegunLemmas.{nothing-early}
+use Rattle.afdx_text.specs.declared.conform_line.Conclusion.{Conclusion}
+use Rattle.afdx_text.specs.declared.conform_line.ConformLine.{ConformLine}
+use Rattle.afdx_text.specs.declared.conform_line.ConformLine.TheVariants.{Judged}
 use Rattle.afdx_command_conform.proofs.TellingLemmas.{no-text}
-use Rattle.afdx_command_conform.specs.Choices.{Choices}
-use Rattle.afdx_command_conform.specs.Ran.{ConformAnswers, fault_behind, loss_told}
-use Rattle.afdx_command_conform.specs.Counting.{totals_of}
-use Rattle.afdx_command_conform.specs.Lines.{lines_of}
+use Rattle.afdx_command_conform.specs.Ran.{HasNoLast, RunAnswers, RunTells, fault_behind, loss_told}
 use Rattle.afdx_command_conform.specs.Telling.{lines_text}
-use Rattle.afdx_command_conform.specs.Told.{TellsItems, TellsToEnd}
-use Rattle.afdx_command_conform.specs.Written.{BeginsLast, BeginsWritten, IsWritten, IsWrittenSoFar}
-use Rattle.afdx_command_conform.specs.Totals.{last_line}
-use Rattle.afdx_command_conform.specs.declared.judging.JudgingRun.{JudgingRun}
+use Rattle.afdx_command_conform.specs.Written.{Begins, Writes, WritesLines}
 use Rattle.afdx_command_conform.specs.declared.run.RunCounts.{RunCounts}
-use Rattle.afdx_command_conform.specs.declared.totals.Totals.{Totals}
 
 -- what holds of what is known
 pub where-known : {X : Type 0} (o : Option X) (P : X → Type 0) → ((x : X) → o ≡ Some x → P x) → IfSome o P
 where-known None P f = tt
 where-known (Some x) P f = f x refl
 
-abbrev pub counted_with : Totals → SeenCount → RunCounts
-counted_with totals count = record { totals = totals; count = count }
-
--- nothing is told
-nothing-so-far : (k : Rows × Choices) (output : Option (List ℕ)) → IsWrittenSoFar k [] output output
-nothing-so-far k output = record {
-  lines = [];
-  written = subst (λ (l : List ℕ). Appends output output l) (sym no-text) (Appends-nil output);
-  are_early = nothing-early k;
-}
-
-module _ (Takes : List (Item Seen) → Result SeenCount RunFault → Type 0) (k : Rows × Choices) (is_lossy : Bool) where
+-- what a run writes: as `Ran` has it
+module _ (Takes : List (Item Seen) → Result SeenCount RunFault → Type 0)
+    (AreAll : List Frame → List ConformLine → Conclusion → Type 0) (AreEarly AreFirst : List Frame → List ConformLine → Type 0)
+    (is_lossy : Bool) where
   -- there was no memory at the begin
-  pub answers-memory : (old : Option (List ℕ)) → Takes [] (Err Memory) → ConformAnswers Takes k is_lossy old old
-      (Err Memory)
-  answers-memory old takes = inl ([], takes, inl (nothing-so-far k old))
+  pub answers-memory : (old : Option (List ℕ)) → AreEarly [] [] → Takes [] (Err Memory)
+      → RunAnswers Takes AreAll AreEarly AreFirst is_lossy old old (Err Memory)
+  answers-memory old none takes = inl (
+    [],
+    takes,
+    inl (record {
+      lines = [];
+      are_so = none;
+      written = subst (λ (l : List ℕ). Appends old old l) (sym no-text) (Appends-nil old);
+    }),
+  )
 
-  module _ (judging : JudgingRun) (old mid : Option (List ℕ)) where
-    abbrev pub Tells : List (Item Seen) → Type 0
-    Tells = TellsItems k judging old mid
-
-    abbrev pub Ends : List (Item Seen) → Type 0
-    Ends = TellsToEnd k judging old mid
-
-    -- the inputs were told by the machine, with this answer
-    abbrev pub AreTold : Result SeenCount RunFault → Type 0
-    AreTold answer = (items : List (Item Seen)) × Takes items answer
-        × By answer (Ends items) (Tells items) (Tells items ⊎ BeginsWritten k (frames_of items) old mid)
-
-    so-far : (items : List (Item Seen)) → Tells items → IsWrittenSoFar k (frames_of items) old mid
-    so-far items told = record { lines = told.0; written = told.1.written; are_early = told.3 }
-
-    begins : (items : List (Item Seen)) → Tells items ⊎ BeginsWritten k (frames_of items) old mid
-        → IsWrittenSoFar k (frames_of items) old mid ⊎ BeginsWritten k (frames_of items) old mid
-    begins items (inl told) = inl (so-far items told)
-    begins items (inr begun) = inr begun
+  -- what is told of items is their lines, and what is counted is of them
+  module _ (Done Told Begun : (start written : Option (List ℕ)) → List (Item Seen) → Type 0)
+      (HasCounted : Conclusion → Type 0) (old new : Option (List ℕ))
+      (all : (mid : Option (List ℕ)) (items : List (Item Seen)) (last : Conclusion) → Done old mid items → HasCounted last
+      → WritesLines old mid (AreAll (frames_of items)) last)
+      (early : (items : List (Item Seen)) → Told old new items → Writes old new (AreEarly (frames_of items)))
+      (first : (items : List (Item Seen)) → Begun old new items → Begins old new (AreFirst (frames_of items))) where
+    some : (items : List (Item Seen)) → Told old new items ⊎ Begun old new items
+        → Writes old new (AreEarly (frames_of items)) ⊎ Begins old new (AreFirst (frames_of items))
+    some items (inl told) = inl (early items told)
+    some items (inr begun) = inr (first items begun)
 
     writes : (items : List (Item Seen)) (cause : Cause)
-        → ByCause cause (Tells items) (Tells items ⊎ BeginsWritten k (frames_of items) old mid)
-        → ByCause cause (IsWrittenSoFar k (frames_of items) old mid)
-        (IsWrittenSoFar k (frames_of items) old mid ⊎ BeginsWritten k (frames_of items) old mid)
-    writes items FailedWrite some = begins items some
-    writes items NoMemory some = begins items some
-    writes items FailedRead told = so-far items told
-    writes items BadInput told = so-far items told
+        → ByCause cause (Told old new items) (Told old new items ⊎ Begun old new items)
+        → ByCause cause (Writes old new (AreEarly (frames_of items)))
+        (Writes old new (AreEarly (frames_of items)) ⊎ Begins old new (AreFirst (frames_of items)))
+    writes items FailedWrite told = some items told
+    writes items NoMemory told = some items told
+    writes items FailedRead told = early items told
+    writes items BadInput told = early items told
 
-    -- the run ended with a fault
-    pub answers-err : (fault : RunFault) → AreTold (Err fault) → ConformAnswers Takes k is_lossy old mid (Err fault)
-    answers-err fault (items, takes, by) = inl (items, takes, writes items (cause_of fault) by)
+    ends : (fault : RunFault) → HasNoLast Takes Done Told Begun HasCounted is_lossy old new fault
+        → RunAnswers Takes AreAll AreEarly AreFirst is_lossy old new (Err fault)
+    ends fault h = by h.why
+      where
+        w : WritesLines old h.written (AreAll (frames_of h.is_told.items)) h.last
+        w = all h.written h.is_told.items h.last h.is_told.done h.is_told.counted
+        by : ((fault_behind is_lossy h.count ≡ Some fault) × (new ≡ h.written))
+            ⊎ ((fault_behind is_lossy h.count ≡ None) × IsOfOutput fault
+            × AppendsFront h.written new (conform_text (Judged h.last)))
+            → RunAnswers Takes AreAll AreEarly AreFirst is_lossy old new (Err fault)
+        by (inl (behind, same)) =
+            inr (h.is_told.items, h.count, h.is_told.takes, inl (behind, (h.last, record {
+              lines = w.lines;
+              are_so = w.are_so;
+              written = subst (λ (o : Option (List ℕ)). Appends old o (lines_text w.lines)) (sym same) w.written;
+            })))
+        by (inr (none, of, begun)) =
+            inr (h.is_told.items, h.count, h.is_told.takes, inr (none, of, record {
+              lines = w.lines;
+              last = h.last;
+              are_so = w.are_so;
+              begun = front-more old h.written new (lines_text w.lines) (conform_text (Judged h.last)) w.written
+                  begun;
+            }))
 
-    -- it came to its end, and the last line is written
-    pub answers-ok : (new : Option (List ℕ)) (count : SeenCount) (totals : Totals)
-        → ((past : List (Item Seen)) → Ends past → IsWritten k (frames_of past) old mid totals)
-        → fault_behind is_lossy count ≡ None
-        → Appends mid new (conform_text (last_line totals)) → AreTold (Ok count)
-        → ConformAnswers Takes k is_lossy old new (Ok (counted_with totals count))
-    answers-ok new count totals ended none last (items, takes, told) =
-        let w = ended items told in (
-          items,
-          takes,
-          none,
+    pub run-answers : (answer : Result RunCounts RunFault)
+        → RunTells Takes Done Told Begun HasCounted is_lossy old new answer
+        → RunAnswers Takes AreAll AreEarly AreFirst is_lossy old new answer
+    run-answers (Ok counted) h =
+        let w = all h.written h.is_told.items counted.conclusion h.is_told.done h.is_told.counted in (
+          h.is_told.items,
+          h.is_told.takes,
+          h.none_behind,
           record {
-            dues = w.dues;
-            are_lines = w.are_lines;
-            written = Appends-trans old mid new (lines_text (lines_of w.dues)) (conform_text (last_line totals))
-                w.written last;
-            totals_are = w.totals_are;
+            lines = w.lines;
+            are_so = w.are_so;
+            written = Appends-trans old h.written new (lines_text w.lines) (conform_text (Judged counted.conclusion))
+                w.written h.last;
           },
         )
-
-    -- frames were lost
-    pub answers-lost : (count : SeenCount) (totals : Totals) (fault : RunFault)
-        → ((past : List (Item Seen)) → Ends past → IsWritten k (frames_of past) old mid totals)
-        → fault_behind is_lossy count ≡ Some fault → AreTold (Ok count)
-        → ConformAnswers Takes k is_lossy old mid (Err fault)
-    answers-lost count totals fault ended some (items, takes, told) =
-        let w = ended items told in
-        inr (
-          items,
-          count,
-          takes,
-          inl (
-            some,
-            record {
-              dues = w.dues;
-              are_lines = w.are_lines;
-              written =
-                  w.written;
-            },
-          ),
-        )
-
-    -- the last line isn't written, or not all of it
-    pub answers-cut : (new : Option (List ℕ)) (count : SeenCount) (totals : Totals) (fault : RunFault)
-        → IsOfOutput fault
-        → ((past : List (Item Seen)) → Ends past → IsWritten k (frames_of past) old mid totals)
-        → fault_behind is_lossy count ≡ None → AppendsFront mid new (conform_text (last_line totals))
-        → AreTold (Ok count)
-        → ConformAnswers Takes k is_lossy old new (Err fault)
-    answers-cut new count totals fault of ended none begun (items, takes, told) =
-        let w = ended items told in
-        let here : BeginsLast k (frames_of items) old new = record {
-          dues = w.dues;
-          are_lines = w.are_lines;
-          begun = front-more old mid new (lines_text (lines_of w.dues))
-              (conform_text (last_line (totals_of k (frames_of items) w.dues))) w.written
-              (subst (λ (n : Totals). AppendsFront mid new (conform_text (last_line n))) w.totals_are begun);
-        } in
-        inr (items, count, takes, inr (none, of, here))
+    run-answers (Err fault) (inl h) = inl (h.items, h.takes, writes h.items (cause_of fault) h.told)
+    run-answers (Err fault) (inr h) = ends fault h
 
 -- ---- what is told in the place of the last line is no fault of a device
 

@@ -12,7 +12,8 @@ use Rattle.afdx_conform.proofs.CutLemmas.{uncut-reverse}
 use Rattle.afdx_conform.proofs.QuietLemmas.{counts_none}
 use Rattle.afdx_conform.specs.Histories.{counts_of, counts_with, judged_of, least_waiting, uncut}
 use Rattle.afdx_conform.specs.Streams.{Gone, Terms}
-use Rattle.afdx_text.specs.ConformLines.{conform_text}
+use Rattle.afdx_text.specs.declared.conform_line.Conclusion.{Conclusion}
+use Rattle.afdx_text.specs.declared.conform_line.ConformLine.{ConformLine}
 use Rattle.afdx_text.specs.declared.conform_line.Answer.TheVariants.{Conforms, Deviates, Undecided}
 use Rattle.afdx_command_conform.specs.Choices.{Choices}
 use Rattle.afdx_command_conform.specs.Counting.{Counted, counted_at, totals_of}
@@ -20,8 +21,8 @@ use Rattle.afdx_command_conform.specs.Frames.{arrivals_of, frames_of, terms_at}
 use Rattle.afdx_command_conform.specs.Lines.{Due, lines_of}
 use Rattle.afdx_command_conform.specs.RunLaws.{AreExplained, AreSure, NothingIsFound}
 use Rattle.afdx_command_conform.specs.Tapped.{is_judged}
-use Rattle.afdx_command_conform.specs.Telling.{lines_text}
-use Rattle.afdx_command_conform.specs.Totals.{answer_of, is_unexercised, last_line}
+use Rattle.afdx_command_conform.specs.Totals.{answer_of, concluded, is_unexercised}
+use Rattle.afdx_command_conform.specs.Written.{whole_text}
 use Rattle.afdx_command_conform.specs.VerdictLaws.{AllIsWrittenOnce, ConformsIsExplained, ExactConforms, IsExercised, IsRun, RightNeverDeviates, SomeLeft, answered, end_of}
 use Rattle.afdx_command_conform.specs.declared.totals.Totals.{Totals}
 use Rattle.afdx_command_conform.proofs.FoundLemmas.{all-quiet, quiet-streams}
@@ -255,15 +256,16 @@ appended xs (Some a) None bytes p q = absurd q
 appended xs None other bytes p q = absurd p
 
 pub written_once : AllIsWrittenOnce
-written_once k frames old new other totals others few a b =
-    let same = one_answer k.0 k.1 (end_of k frames) frames a.dues b.dues few a.are_lines b.are_lines in
-    let counted = a.totals_are ∙ ap (λ (l : List Due). totals_of k frames l) same ∙ sym b.totals_are in
+written_once k frames old new other last others few a b =
+    let p = a.are_so in
+    let q = b.are_so in
+    let same = one_answer k.0 k.1 (end_of k frames) frames p.dues q.dues few p.are_lines q.are_lines in
+    let counted = p.last_is ∙ ap (λ (l : List Due). concluded (totals_of k frames l)) same ∙ sym q.last_is in
+    let lines : a.lines ≡ b.lines = p.are ∙ ap (λ (l : List Due). lines_of l) same ∙ sym q.are in
     record {
-      written = appended old new other (lines_text (lines_of b.dues) ++ conform_text (last_line others))
-          (subst (λ (n : Totals). Appends (Some old) new (lines_text (lines_of b.dues) ++ conform_text (last_line n)))
-          counted
-          (subst (λ (l : List Due). Appends (Some old) new (lines_text (lines_of l) ++ conform_text
-          (last_line totals))) same a.written))
+      written = appended old new other (whole_text b.lines others)
+          (subst (λ (n : Conclusion). Appends (Some old) new (whole_text b.lines n)) counted
+          (subst (λ (l : List ConformLine). Appends (Some old) new (whole_text l last)) lines a.written))
           b.written;
       counted = counted;
     }

@@ -13,7 +13,7 @@ use Rattle.afdx_input_lines.specs.Faults as lists
 use Rattle.afdx_input_lines.specs.declared.fault.RunFault.{RunFault}
 use Rattle.afdx_input_lines.specs.declared.watched.Watched.{Watched}
 use Rattle.afdx_text.specs.Telling.{Tells, TellsFault}
-use Rattle.afdx_command_conform.specs.Totals.{status_of}
+use Rattle.afdx_command_conform.specs.Totals.{answer_status}
 use Rattle.afdx_command_conform.specs.declared.command.Judged.{Judged}
 use Rattle.afdx_command_conform.specs.declared.command.Question.{Question}
 use Rattle.afdx_command_conform.specs.declared.run.RunCounts.{RunCounts}
@@ -34,7 +34,7 @@ no_switch_line = codes "words NoSuchSwitch\n"
 
 -- the exit status of what a run answers, and what was read, if the last line was written
 abbrev pub status_of_answer : Result RunCounts RunFault → ℕ
-status_of_answer (Ok counted) = status_of counted.totals
+status_of_answer (Ok counted) = answer_status counted.conclusion.answer
 status_of_answer (Err fault) = lists.status_of fault
 
 abbrev pub count_of_answer : Result RunCounts RunFault → Option SeenCount
@@ -71,14 +71,14 @@ abbrev pub name_in : Question → Option (List ℕ)
 name_in question = option_map (λ name. name.now) question.switch
 
 -- what is judged, by a configuration and a name
-module _ {E : Type 0} (error_bytes : E → Option (List ℕ)) (question : Question)
-    (old new : Watched E) (ended : Judged) where
+module _ {E : Type 0} (error_bytes : E → Option (List ℕ)) (config : List ℕ)
+    (name : Option (List ℕ)) (old new : Watched E) (ended : Judged) where
   -- a run by the tables of the switch ended the command, of which this holds
   pub record IsJudged (ran : Rows → Result RunCounts RunFault → Type 0) : Type 0 where
     pub described : Described
-    pub read : IsRead question.config.now described
+    pub read : IsRead config described
     pub tables : Rows
-    pub judged : tables_judged described (name_in question) ≡ Some tables
+    pub judged : tables_judged described name ≡ Some tables
     pub answer : Result RunCounts RunFault
     pub ends : EndsAs error_bytes old new ended answer
     pub runs : ran tables answer
@@ -86,14 +86,14 @@ module _ {E : Type 0} (error_bytes : E → Option (List ℕ)) (question : Questi
   -- the configuration describes no such switch
   pub record HasNoSwitch : Type 0 where
     pub described : Described
-    pub read : IsRead question.config.now described
-    pub unjudged : tables_judged described (name_in question) ≡ None
+    pub read : IsRead config described
+    pub unjudged : tables_judged described name ≡ None
     pub told : IsToldNoSwitch error_bytes old new ended.status
 
   -- there are no tables to judge by
   abbrev pub IsUnjudged : Type 0
   IsUnjudged = (ended.count ≡ None)
-      × (IsUnread error_bytes old new question.config.now ended.status ⊎ HasNoSwitch)
+      × (IsUnread error_bytes old new config ended.status ⊎ HasNoSwitch)
 
   -- a run ended the command, or there are no tables, and this holds
   abbrev pub IsJudgedOr : (Rows → Result RunCounts RunFault → Type 0) → Type 0 → Type 0

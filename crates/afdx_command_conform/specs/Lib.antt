@@ -17,8 +17,9 @@ pub mod Holding
 pub mod Judging
 pub mod Beginning
 pub mod Counting
-pub mod Told
 pub mod Written
+pub mod AllLines
+pub mod Told
 pub mod Ran
 pub mod RunLaws
 pub mod VerdictLaws

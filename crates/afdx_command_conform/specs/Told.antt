@@ -9,7 +9,9 @@ use Rattle.afdx_input_sources.specs.Engine.{Item}
 use Rattle.afdx_input_runs.specs.Joining.{Frame, frames_of}
 use Rattle.afdx_input_runs.specs.declared.seen.Seen.{Seen}
 use Rattle.afdx_input_lines.specs.Calls.{AppendsFront}
+use Rattle.afdx_text.specs.declared.conform_line.Conclusion.{Conclusion}
 use Rattle.afdx_text.specs.declared.conform_line.ConformLine.{ConformLine}
+use Rattle.afdx_command_conform.specs.AllLines.{AreAllLines}
 use Rattle.afdx_command_conform.specs.Beginning.{AreEarly}
 use Rattle.afdx_command_conform.specs.Choices.{Choices, latest_of, left_out_of, until_or}
 use Rattle.afdx_command_conform.specs.ChoicesOf.{choices_of}
@@ -18,6 +20,7 @@ use Rattle.afdx_command_conform.specs.Keeping.{IsNothingDue}
 pub use Rattle.afdx_command_conform.specs.Lines.{Due, lines_of}
 use Rattle.afdx_command_conform.specs.Standing.{IsBehindAll, StreamsStand}
 use Rattle.afdx_command_conform.specs.Tapped.{taps_in}
+use Rattle.afdx_command_conform.specs.Written.{WritesLines}
 use Rattle.afdx_command_conform.specs.declared.streams.Streams.{Streams}
 use Rattle.afdx_command_conform.specs.declared.judging.JudgingRun.{JudgingRun}
 
@@ -102,6 +105,11 @@ abbrev pub TellsToEnd : Rows × Choices → JudgingRun → Option (List ℕ) →
     List (Item Seen) → Type 0
 TellsToEnd k j old new past = (time : ℕ) × TellsAll k true time j old new (frames_of past)
     × (is_some j.streams.ended ≡ true) × IsNothingDue k.0 None j.streams.kept
+
+-- that is the answer by all lines, once all is told
+abbrev pub CountsAll : JudgingRun → Conclusion → Type 0
+CountsAll j last = (k : Rows × Choices) (start end : Option (List ℕ)) (past : List (Item Seen)) →
+    TellsToEnd k j start end past → WritesLines start end (AreAllLines k (frames_of past)) last
 
 -- ---- what the calls of a run do; `done` says what holds where one did its work, else a device
 -- failed or memory was refused

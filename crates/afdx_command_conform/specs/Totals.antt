@@ -2,8 +2,7 @@
 use Rattle.std.specs.Prelude.{ℕ, Bool, ◌&&◌, ◌||◌, nat_eq, nat_lt, if◌then◌else◌, None}
 use Rattle.afdx_text.specs.declared.conform_line.Answer.{Answer}
 use Rattle.afdx_text.specs.declared.conform_line.Answer.TheVariants.{Conforms, Deviates, Undecided}
-use Rattle.afdx_text.specs.declared.conform_line.ConformLine.{ConformLine}
-use Rattle.afdx_text.specs.declared.conform_line.ConformLine.TheVariants.{Judged}
+use Rattle.afdx_text.specs.declared.conform_line.Conclusion.{Conclusion}
 use Rattle.afdx_command_conform.specs.declared.totals.Totals.{Totals}
 
 -- a stream is idle, where that matters
@@ -18,8 +17,9 @@ answer_of t =
     else if t.is_unsure || nat_eq t.explained 0 || is_unexercised t then Undecided
     else Conforms
 
-abbrev pub last_line : Totals → ConformLine
-last_line t = Judged (record {
+-- the answer, and what is counted
+abbrev pub concluded : Totals → Conclusion
+concluded t = record {
   answer = answer_of t;
   explained = t.explained;
   waiting = t.waiting;
@@ -28,13 +28,10 @@ last_line t = Judged (record {
   unseen = t.unseen;
   idle = t.idle;
   senders = None;
-})
+}
 
 -- the exit status of a run that came to its end
 abbrev pub answer_status : Answer → ℕ
 answer_status Conforms = 0
 answer_status (Deviates findings) = 5
 answer_status Undecided = 3
-
-abbrev pub status_of : Totals → ℕ
-status_of t = answer_status (answer_of t)

@@ -14,15 +14,16 @@ use Rattle.afdx_conform.specs.Levels.{parts}
 use Rattle.afdx_conform.specs.Streams.{Gone, Terms}
 use Rattle.afdx_text.specs.declared.conform_line.Answer.{Answer}
 use Rattle.afdx_text.specs.declared.conform_line.Answer.TheVariants.{Conforms, Deviates}
+use Rattle.afdx_text.specs.declared.conform_line.Conclusion.{Conclusion}
+use Rattle.afdx_command_conform.specs.AllLines.{AreAllLines}
 use Rattle.afdx_command_conform.specs.Choices.{Choices, until_or}
 use Rattle.afdx_command_conform.specs.Counting.{totals_of}
 use Rattle.afdx_command_conform.specs.Frames.{arrivals_of, frames_of, terms_at}
 use Rattle.afdx_command_conform.specs.Lines.{AreLines, Due}
-use Rattle.afdx_command_conform.specs.Ran.{WritesAll}
 use Rattle.afdx_command_conform.specs.RunLaws.{AreAll, AreAsTheHeadline, AreByTime, AreExplained, AreOfRight, AreSure, IsExactBy, NoneIsStrange, sound_at, uncut_at}
 use Rattle.afdx_command_conform.specs.Tapped.{judged_to}
 use Rattle.afdx_command_conform.specs.Totals.{answer_of}
-use Rattle.afdx_command_conform.specs.declared.totals.Totals.{Totals}
+use Rattle.afdx_command_conform.specs.Written.{WritesWhole}
 
 module _ (k : Rows × Choices) (frames : List Frame) where
   -- when the recordings end
@@ -123,16 +124,16 @@ ConformsShowsAll =
     (sound_at k.0 k.1 (end_of k frames) frames l side)
     (frames_of k.0 k.1 l.vl side port frames))
 
--- all that is written, and the totals, are a function of tables, choices and frames
-pub record IsWrittenOnce (new other : Option (List ℕ)) (totals others : Totals) : Type 0 where
+-- all that is written, and the answer, are a function of tables, choices and frames
+pub record IsWrittenOnce (new other : Option (List ℕ)) (last others : Conclusion) : Type 0 where
   pub written : new ≡ other
-  pub counted : totals ≡ others
+  pub counted : last ≡ others
 
 abbrev pub AllIsWrittenOnce : Type 0
 AllIsWrittenOnce =
     (k : Rows × Choices) (frames : List Frame) (old : List ℕ) (new other : Option (List ℕ))
-    (totals others : Totals) →
+    (last others : Conclusion) →
     length k.0.links < 0x100000000 →
-    WritesAll k frames (Some old) new totals →
-    WritesAll k frames (Some old) other others →
-    IsWrittenOnce new other totals others
+    WritesWhole (Some old) new (AreAllLines k frames) last →
+    WritesWhole (Some old) other (AreAllLines k frames) others →
+    IsWrittenOnce new other last others

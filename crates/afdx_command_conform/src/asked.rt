@@ -40,7 +40,7 @@ fn is_before(leeway: &Leeway, role: Role, time: u64) -> bool
 }
 
 /// Whether a line lies from the start to the end.
-pub(crate) fn is_in_time(choices: &Choices, seen: &Seen) -> bool
+pub fn is_in_time(choices: &Choices, seen: &Seen) -> bool
     ensures { (taps : Taps) (bytes : List ℕ) (n : ℕ) →
         result ≡ asked.is_in_time (choices_of taps choices.now)
         (frame_of (item_of n seen.now bytes)) }
@@ -50,7 +50,7 @@ pub(crate) fn is_in_time(choices: &Choices, seen: &Seen) -> bool
 }
 
 /// Whether frames of this link, or those of none, are left out.
-pub(crate) fn is_left_out(choices: &Choices, vl: Option<VlId>) -> bool
+pub fn is_left_out(choices: &Choices, vl: Option<VlId>) -> bool
     ensures { result ≡ list_any (λ link. asked.is_same_link link vl) choices.now.left_out.items }
 {
     choices.left_out.contains(&vl)

@@ -2,12 +2,13 @@
 
 ghost use Rattle.std.specs.Prelude.{◌≡◌, ◌||◌, ◌⊎◌, true, false, option_map};
 ghost use Rattle.afdx_command_conform.specs.Commands as spec;
-ghost use Rattle.afdx_command_conform.specs.Commands.{EndsAs, IsJudgedOr, IsRun, IsToldNoSwitch};
+ghost use Rattle.afdx_command_conform.specs.Commands.{EndsAs, IsJudgedOr, IsRun, IsToldNoSwitch, name_in};
 ghost use Rattle.afdx_command_conform.specs.Ran.{Answers};
 ghost use Rattle.afdx_input_runs.specs.Arrivals.{TakesFrames};
 
 use crate::choices::Choices;
 use crate::run::{RunCounts, run_conform};
+use crate::totals::status_of;
 use afdx_command_tables::read_described;
 use afdx_command_tables::status::WRONG_WORDS;
 use afdx_config::{Described, Tables};
@@ -34,7 +35,7 @@ pub struct Question<'a> {
 }
 
 /// It ended before its last line.
-fn ended_with(status: u8) -> Judged
+pub fn ended_with(status: u8) -> Judged
     ensures { result ≡ spec.ended_with status }
 {
     Judged {
@@ -45,7 +46,7 @@ fn ended_with(status: u8) -> Judged
 
 /// The tables of the switch of this name, or those of the one switch where no name is given. None:
 /// no switch has the name, one is wanted, or none may be.
-fn tables_named(described: Described, switch: Option<&str>) -> Option<Tables>
+pub fn tables_named(described: Described, switch: Option<&str>) -> Option<Tables>
     ensures { result ≡ spec.tables_judged described (option_map (λ name. name.now) switch.entry) }
 {
     match described {
@@ -62,7 +63,7 @@ fn tables_named(described: Described, switch: Option<&str>) -> Option<Tables>
 }
 
 /// Tells that no switch is judged, and gives the exit status.
-fn refuse_switch<E: Write>(errors: &mut Watched<E>) -> u8
+pub fn refuse_switch<E: Write>(errors: &mut Watched<E>) -> u8
     ensures { IsToldNoSwitch E.contents errors.old errors.new result }
 {
     tell(errors, b"words NoSuchSwitch\n");
@@ -70,12 +71,12 @@ fn refuse_switch<E: Write>(errors: &mut Watched<E>) -> u8
 }
 
 /// Tells the fault of a run in one line, if it has one, and says how the command ended.
-fn end<E: Write>(answer: Result<RunCounts, RunFault>, errors: &mut Watched<E>) -> Judged
+pub fn end_judged<E: Write>(answer: Result<RunCounts, RunFault>, errors: &mut Watched<E>) -> Judged
     ensures { EndsAs E.contents errors.old errors.new result answer }
 {
     match answer {
         Ok(counted) => Judged {
-            status: counted.totals.status(),
+            status: status_of(counted.conclusion.answer),
             count: Some(counted.count),
         },
         Err(fault) => {
@@ -111,7 +112,8 @@ pub fn conform<P: Tapping + Drop, A: RunInput<P, Seen>, O: Sink, E: Write>(
 
     // The command ends as a run by the tables of the switch answered; or the configuration isn't
     // read, or has no such switch: then nothing is read and nothing is written.
-    ensures judges { IsJudgedOr E.contents question.entry errors.old errors.new result
+    ensures judges { IsJudgedOr E.contents question.entry.config.now (name_in question.entry)
+        errors.old errors.new result
         (λ t answer. IsRun (A.ended inputs.new) (A.failed inputs.new) (O.failed output.new) answer
         × Answers (A.known inputs.old) (A.Takes TakesFrames options) inputs.new t (P.tapped options)
         question.entry.choices.now (O.written output.old) (O.written output.new) answer)
@@ -127,5 +129,5 @@ pub fn conform<P: Tapping + Drop, A: RunInput<P, Seen>, O: Sink, E: Write>(
         return ended_with(refuse_switch(errors));
     };
     let answer = run_conform(alloc, &tables, question.choices, options, inputs, output);
-    end(answer, errors)
+    end_judged(answer, errors)
 }

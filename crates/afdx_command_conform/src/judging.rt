@@ -14,7 +14,7 @@ ghost use Rattle.afdx_command_conform.specs.Beginning.{BeginsFrom};
 ghost use Rattle.afdx_command_conform.specs.Holding.{HoldsOneWindow};
 ghost use Rattle.afdx_command_conform.specs.Told.{ClosesAt, GoesOn, HasBegun, IsEndFor, TakesNext};
 ghost use Rattle.afdx_command_conform.specs.Told.{TellsAll, TellsItems, TellsToEnd};
-ghost use Rattle.afdx_command_conform.specs.Written.{BeginsAll, IsWritten};
+ghost use Rattle.afdx_command_conform.specs.AllLines.{BeginsAll};
 ghost use Rattle.afdx_command_conform.specs.Keeping.{IsNothingDue};
 ghost use Rattle.afdx_config.specs.Rows.{Rows};
 ghost use Rattle.afdx_input_sources.specs.Engine.{Item, item_of};
@@ -29,6 +29,7 @@ ghost use Rattle.afdx_text.specs.Sinks.{SinkKept};
 
 use crate::asked::{is_in_time, is_left_out};
 use crate::choices::Choices;
+use crate::judge::Judge;
 use crate::streams::Streams;
 use crate::telling::{findings_in, put_lines};
 use crate::totals::Totals;
@@ -38,7 +39,7 @@ use afdx_frame::{Checked, VlId};
 use afdx_input_lines::{Role, RunFault};
 use afdx_input_runs::Seen;
 use afdx_input_sources::{Machine, Taps};
-use afdx_text::{ConformLine, Sink};
+use afdx_text::{Conclusion, ConformLine, Sink};
 use std::alloc::{AllocError, Global};
 
 /// The most bytes of a frame that counts: no list has longer ones.
@@ -77,19 +78,6 @@ impl<'a> JudgingRun<'a> {
             findings: 0,
             left_out: 0,
         })
-    }
-
-    /// What it counted.
-    pub(crate) fn totals(&self) -> Totals
-        ensures written { (k : Rows × Chosen) (start end : Option (List ℕ))
-            (past : List (Item Passed)) → TellsToEnd k self.now start end past →
-            IsWritten k (frames_of past) start end result }
-    {
-        let unseen = self.streams.unseen();
-        let exercised = self.choices.is_exercised;
-        let mut totals = Totals::new(self.findings, self.left_out, unseen, exercised);
-        self.streams.count(&mut totals);
-        totals
     }
 
     /// Tells some lines, and counts those that are findings.
@@ -283,7 +271,8 @@ impl<'a> JudgingRun<'a> {
 impl Machine<Seen> for JudgingRun<'_> {
     ghost use Rattle.afdx_command_conform.specs.Choices.{Choices as Chosen};
     ghost use Rattle.afdx_command_conform.specs.Told.{TellsItems, TellsToEnd};
-    ghost use Rattle.afdx_command_conform.specs.Written.{BeginsWritten};
+    ghost use Rattle.afdx_command_conform.specs.AllLines.{AreSomeLines};
+    ghost use Rattle.afdx_command_conform.specs.Written.{Begins as BeginsSome};
     ghost use Rattle.afdx_input_runs.specs.Joining.{frames_of};
     ghost use Rattle.afdx_config.specs.Rows.{Rows};
 
@@ -294,7 +283,7 @@ impl Machine<Seen> for JudgingRun<'_> {
     ghost Told = { TellsItems };
 
     ghost Begins = { λ rules judging old new past.
-        BeginsWritten rules (frames_of past) old new };
+        BeginsSome old new (AreSomeLines rules (frames_of past)) };
 
     ghost Done = { TellsToEnd };
 
@@ -314,5 +303,19 @@ impl Machine<Seen> for JudgingRun<'_> {
     fn end<O: Sink>(&mut self, output: &mut O) -> Result<(), RunFault> {
         self.close_at_end(output)?;
         self.tell_due(None, output)
+    }
+}
+
+impl Judge for JudgingRun<'_> {
+    ghost use Rattle.afdx_command_conform.specs.Told.{CountsAll};
+
+    ghost HasCounted = { CountsAll };
+
+    fn conclusion(&self) -> Conclusion {
+        let unseen = self.streams.unseen();
+        let exercised = self.choices.is_exercised;
+        let mut totals = Totals::new(self.findings, self.left_out, unseen, exercised);
+        self.streams.count(&mut totals);
+        totals.conclusion()
     }
 }

@@ -124,7 +124,7 @@ fn unseen_on(tables: &Tables, taps: &Taps, side: Side) -> u64
 }
 
 /// How many streams aren't judged, on both sides.
-pub(crate) fn unseen_of(tables: &Tables, taps: &Taps) -> u64
+pub fn unseen_of(tables: &Tables, taps: &Taps) -> u64
     ensures { result ≡ spec.unseen_of tables.now (taps_in taps.now) }
 {
     unseen_on(tables, taps, Side::A) + unseen_on(tables, taps, Side::B)

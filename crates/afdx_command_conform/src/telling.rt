@@ -21,7 +21,7 @@ fn is_finding(line: &ConformLine) -> bool
 }
 
 /// How many lines say so.
-pub(crate) fn findings_in(lines: &[ConformLine]) -> u64
+pub fn findings_in(lines: &[ConformLine]) -> u64
     ensures { result ≡ min (spec.findings_in lines.now) spec.most_counted }
 {
     let mut count: u64 = 0;
@@ -34,7 +34,7 @@ pub(crate) fn findings_in(lines: &[ConformLine]) -> u64
 }
 
 /// Puts some lines.
-pub(crate) fn put_lines<O: Sink>(lines: &[ConformLine], output: &mut O) -> Result<(), RunFault>
+pub fn put_lines<O: Sink>(lines: &[ConformLine], output: &mut O) -> Result<(), RunFault>
     requires sound { O.failed output.old ≡ false }
     ensures sink { SinkKept O.failed O.settings output.old output.new result }
     ensures told { OnOk result (Appends (O.written output.old) (O.written output.new)

@@ -11,7 +11,7 @@ ghost use Rattle.afdx_command_conform.specs.Totals as spec;
 ghost use Rattle.afdx_command_conform.specs.declared.key.Key.{Key};
 
 use crate::slot::Slot;
-use afdx_text::{Answer, Conclusion, ConformLine};
+use afdx_text::{Answer, Conclusion};
 
 /// What a run counted.
 ///
@@ -116,11 +116,11 @@ impl Totals {
         }
     }
 
-    /// The last line.
-    pub fn line(&self) -> ConformLine
-        ensures { result ≡ spec.last_line self.now }
+    /// The answer, with what is counted.
+    pub(crate) fn conclusion(&self) -> Conclusion
+        ensures { result ≡ spec.concluded self.now }
     {
-        ConformLine::Judged(Conclusion {
+        Conclusion {
             answer: self.answer(),
             explained: self.explained,
             waiting: self.waiting,
@@ -129,17 +129,17 @@ impl Totals {
             unseen: self.unseen,
             idle: self.idle,
             senders: None,
-        })
-    }
-
-    /// The exit status: 0 conforms, 5 deviates, 3 undecided.
-    pub fn status(&self) -> u8
-        ensures { result ≡ spec.status_of self.now }
-    {
-        match self.answer() {
-            Answer::Conforms => 0,
-            Answer::Deviates(_) => 5,
-            Answer::Undecided => 3,
         }
+    }
+}
+
+/// The exit status of an answer: 0 conforms, 5 deviates, 3 undecided.
+pub(crate) fn status_of(answer: Answer) -> u8
+    ensures { result ≡ spec.answer_status answer }
+{
+    match answer {
+        Answer::Conforms => 0,
+        Answer::Deviates(_) => 5,
+        Answer::Undecided => 3,
     }
 }

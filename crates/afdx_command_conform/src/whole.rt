@@ -47,7 +47,7 @@ fn vl_of_whole(alloc: Global, frame: Checked<'_>) -> Result<Option<VlId>, AllocE
 
 /// The link that a frame names, if it names one, as `vl_of` finds it in all its bytes. Fails only
 /// out of memory, where the message is shorter than an address.
-pub(crate) fn vl_named(alloc: Global, frame: Checked<'_>) -> Result<Option<VlId>, AllocError>
+pub fn vl_named(alloc: Global, frame: Checked<'_>) -> Result<Option<VlId>, AllocError>
     ensures { IfOk result (λ vl. vl ≡ link_named_by (bytes_of frame.entry)) }
 {
     if frame.message.len() < ADDRESS {

@@ -1,14 +1,15 @@
-use Rattle.std.proofs.Common.{true, ◌∙◌, ap, inr}
+use Rattle.std.proofs.Common.{true, ◌∙◌, ap}
 use Rattle.std.specs.Prelude.{is_some}
 use Rattle.afdx_input_runs.specs.Joining.{frames_of}
 use Rattle.afdx_text.proofs.OutputLemmas.{on-err}
-use Rattle.afdx_command_conform.proofs.BegunLemmas.{begun-last, goes-last, on-err-all}
+use Rattle.afdx_command_conform.proofs.BegunLemmas.{all-are-some, begun-last, goes-last, on-err-all}
 use Rattle.afdx_command_conform.proofs.EndLemmas.{ends-all, known-end}
 use Rattle.afdx_command_conform.proofs.judging.JudgingRunMachineSeen.end.Goals as goal
 
 pub returns-in_err-close_at_end-clause-begins : goal.returns-in_err-close_at_end-clause-begins
 returns-in_err-close_at_end-clause-begins g c = λ k start past h.
-    on-err c.from_residual.result _ (inr (c.in_err-close_at_end.ensures.begun k start (frames_of past) (h.0, h.1, h.2)))
+    on-err c.from_residual.result _ (all-are-some k (frames_of past) start _
+    (c.in_err-close_at_end.ensures.begun k start (frames_of past) (h.0, h.1, h.2)))
 
 pub returns-clause-done : goal.returns-clause-done
 returns-clause-done g c = λ k start past h.

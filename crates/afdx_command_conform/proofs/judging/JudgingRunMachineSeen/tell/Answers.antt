@@ -20,13 +20,13 @@ returns-in_err-reach-clause-begins g c = λ k start past h.
     let o = some.4.order in omega (arith, a, b, d, o)) in
     let b = c.in_err-reach.ensures.begun k (latest_of (frames_of past)) start (frames_of past) latest (omega arith)
     (h.0, h.1, h.2) in
-    on-err c.from_residual.result _ (inr (inl (record {
+    on-err c.from_residual.result _ (inr (record {
       lines = b.0;
       begun = b.1;
-      are_first = comes-next (λ until all dues. AreFirstLines k.0 k.1 until all dues) k c.args.seen.now.heading.time x
+      are_so = inl (comes-next (λ until all dues. AreFirstLines k.0 k.1 until all dues) k c.args.seen.now.heading.time x
           (frames_of past) b.0
-          (omega arith) b.2;
-    })))
+          (omega arith) b.2);
+    }))
 
 pub returns-in_err-take-clause-begins : goal.returns-in_err-take-clause-begins
 returns-in_err-take-clause-begins g c = λ k start past h.
@@ -37,15 +37,15 @@ returns-in_err-take-clause-begins g c = λ k start past h.
     let o = some.4.order in omega (arith, a, b, d, o)) in
     let mid = (c.in_ok-reach.ensures.stands k (latest_of (frames_of past)) start (frames_of past) latest (omega arith)
     (h.0, h.1, h.2)).0 in
-    on-err c.from_residual-in_err-take.result _ (inr (inl (record {
+    on-err c.from_residual-in_err-take.result _ (inr (record {
       lines = mid.0;
       begun = text-front start _ mid.0 mid.1.written;
-      are_first = comes-next
+      are_so = inl (comes-next
           (λ until all dues. AreFirstLines k.0 k.1 until all dues) k c.args.seen.now.heading.time x (frames_of past)
           mid.0
           (omega arith) (stands-begun k (frames_of past) c.args.seen.now.heading.time c.reach.new.self mid.0 latest
-          mid.2);
-    })))
+          mid.2));
+    }))
 
 pub returns-clause-told : goal.returns-clause-told
 returns-clause-told g c = λ k start past h follows can.

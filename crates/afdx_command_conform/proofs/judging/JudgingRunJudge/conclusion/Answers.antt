@@ -1,23 +1,28 @@
-use Rattle.std.proofs.Common.{ap, subst, ◌∙◌}
+use Rattle.std.proofs.Common.{ap, refl, subst, ◌∙◌}
 use Rattle.afdx_config.specs.Rows.{Rows}
 use Rattle.afdx_input_runs.specs.Joining.{frames_of}
 use Rattle.afdx_command_conform.specs.Choices.{Choices, until_or}
 use Rattle.afdx_command_conform.specs.Counting.{HasCounted, counted_of}
+use Rattle.afdx_command_conform.specs.Lines.{lines_of}
 use Rattle.afdx_command_conform.specs.Tapped.{taps_in, unseen_of}
+use Rattle.afdx_command_conform.specs.Totals.{concluded}
+use Rattle.afdx_command_conform.specs.declared.totals.Totals.{Totals}
 use Rattle.afdx_command_conform.proofs.CountingLemmas.{totals-are}
 use Rattle.afdx_command_conform.proofs.EndLemmas.{all-ended, all-lines}
-use Rattle.afdx_command_conform.proofs.judging.JudgingRun.totals.Goals as goal
+use Rattle.afdx_command_conform.proofs.judging.JudgingRunJudge.conclusion.Goals as goal
 
 pub returns : goal.returns
-returns c = record {
-  written = λ k start end past h.
+returns c = λ k start end past h.
       let all = all-lines k c.args.self.now start end past h in
       let until = until_or k.1.until (frames_of past) in
       record {
-        dues = all.0;
-        are_lines = all.1;
+        lines = lines_of all.0;
         written = all.2.written;
-        totals_are = totals-are k (frames_of past) all.0 _
+        are_so = record {
+          dues = all.0;
+          are = refl;
+          are_lines = all.1;
+          last_is = c.conclusion-value.ensures ∙ ap (λ (n : Totals). concluded n) (totals-are k (frames_of past) all.0 _
             (c.count.ensures.findings ∙ c.new-totals.ensures.findings ∙ all.2.findings_are)
             (c.count.ensures.left_out ∙ c.new-totals.ensures.left_out ∙ all.2.left_out_are)
             (c.count.ensures.unseen ∙ c.new-totals.ensures.unseen ∙ c.unseen-unseen.ensures
@@ -29,6 +34,6 @@ returns c = record {
             all.2.tables_are
             (c.count.ensures.counted k.1 until (frames_of past) (ap (λ (o : Choices). o.taps) all.2.choices_are)
             (all-ended k c.args.self.now start end past h)
-            c.new-totals.ensures.counted));
-      };
-}
+            c.new-totals.ensures.counted)));
+        };
+      }
