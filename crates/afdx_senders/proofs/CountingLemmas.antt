@@ -2,11 +2,12 @@
 use Rattle.std.proofs.Common.{◌≡◌, ℕ, ◌+◌, ◌<◌, ◌≤◌, Bool, true, false, List, length, get_or, set, ap, ◌∙◌, arith}
 use Rattle.std.proofs.lemmas.List.Sums.{sum_by-set}
 use Rattle.std.specs.List.{sum_by}
-use Rattle.std.specs.Prelude.{min, if◌then◌else◌, Option, suc}
+use Rattle.std.specs.Prelude.{min, if◌then◌else◌, IfSome, IsSome, None, Option, Some, suc}
 use Rattle.afdx_lawful.specs.Tallies.{counted, most_counted}
 use Rattle.afdx_lawful.specs.declared.sender.JudgedSource.{JudgedSource}
-use Rattle.afdx_senders.specs.Counting.{cut_below, cut_of, held_at, sent_below, sent_of}
+use Rattle.afdx_senders.specs.Counting.{cut_below, cut_of, held_at, held_in_all, lines_left, sent_below, sent_of}
 use Rattle.afdx_senders.specs.Followed.{ByPlace}
+use Rattle.afdx_senders.specs.declared.senders.Senders.{Senders}
 
 one_more : (a b : ℕ) → min (counted a + b) most_counted ≡ counted (a + b)
 one_more a b = omega arith
@@ -44,6 +45,17 @@ fewer_held xs place old new within is less =
     let here = ap held_at is in
     let sums = sum_by-set held_at xs place new old within in
     omega (arith, less, here, sums)
+
+-- as many lines are left where the same is held and found
+pub left_same : (old new : Senders) → new.kept ≡ old.kept → new.found ≡ old.found → lines_left new ≡ lines_left old
+left_same old new kept found =
+    let held = ap held_in_all kept in
+    let long = ap length found in omega (arith, held, long)
+
+-- what stands of whatever there is
+pub if_some : {X P : Type 0} → (o : Option X) → IfSome o (λ x. P) → IsSome o → P
+if_some None stands is = absurd (cc)
+if_some (Some x) stands is = stands
 
 pub one_at_most : (n place count : ℕ) (b : Bool) → count ≡ n + (if b then 1 else 0) → n ≤ place → count ≤ place + 1
 one_at_most n place count true is few = omega (arith, is, few)

@@ -1,7 +1,9 @@
 -- Lines that are added to those that are held.
-use Rattle.std.proofs.Common.{ℕ, ◌≡◌, List, [], ◌∷◌, true, false, map, refl, sym, ap, ◌∙◌, subst}
-use Rattle.std.proofs.lemmas.List.Sorted.{IsPermutation-refl}
+use Rattle.std.proofs.Common.{ℕ, ◌≡◌, ◌+◌, ◌≤◌, Bool, List, [], ◌∷◌, ◌++◌, true, false, length, map, arith, refl, sym, ap, ◌∙◌, subst}
+use Rattle.std.proofs.lemmas.List.{length-append, length-map}
+use Rattle.std.proofs.lemmas.List.Sorted.{IsPermutation-refl, length_permutation}
 use Rattle.std.specs.Prelude.{Option, Some, None}
+use Rattle.afdx_frame.specs.declared.link.Side.{Side}
 use Rattle.afdx_lawful.specs.Alone.{is_empty}
 use Rattle.afdx_lawful.specs.OneSide.{told_heard}
 use Rattle.afdx_lawful.specs.declared.finding.SenderFinding.{SenderFinding}
@@ -61,3 +63,16 @@ single_same port f y told is =
     ∙ ap (λ s. single_line port y.frame.line s told.moment told.is_cut) is.side
     ∙ ap (λ m. single_line port y.frame.line y.frame.side m told.is_cut) is.moment
     ∙ ap (λ b. single_line port y.frame.line y.frame.side (told_at f.source y) b) is.is_cut
+
+-- that adds one line at most
+pub one_line : (port line : ℕ) (side : Side) (moment : ℕ) (is_cut : Bool) (old new : List SenderLine) →
+    AddsLines (single_line port line side moment is_cut) old new → length new ≤ length old + 1
+one_line port line side moment is_cut old new adds =
+    let few = by is_cut in
+    let told = sym (length-map adds.0 line_of) ∙ ap length adds.1 in
+    let all = length_permutation (adds.0 ++ old) new adds.2 in
+    let parts = length-append adds.0 old in omega (arith, few, told, all, parts)
+  where
+    by : (b : Bool) → length (single_line port line side moment b) ≤ 1
+    by true = omega arith
+    by false = omega arith

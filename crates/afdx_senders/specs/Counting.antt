@@ -7,6 +7,7 @@ use Rattle.afdx_lawful.specs.Senders.{held_in}
 use Rattle.afdx_lawful.specs.declared.sender.JudgedSource.{JudgedSource}
 use Rattle.afdx_senders.specs.Followed.{ByPlace, Followed}
 use Rattle.afdx_senders.specs.declared.followed.FollowedSources.{FollowedSources}
+use Rattle.afdx_senders.specs.declared.senders.Senders.{Senders}
 
 -- how many frames a source holds, and all of them
 abbrev pub held_at : Option JudgedSource → ℕ
@@ -15,6 +16,11 @@ held_at (Some source) = held_in source
 
 abbrev pub held_in_all : FollowedSources → ℕ
 held_in_all kept = sum_by held_at kept.slots.items
+
+-- how many lines may be told until another frame comes: one of each frame that is held, and those
+-- that are found
+abbrev pub lines_left : Senders → ℕ
+lines_left senders = held_in_all senders.kept + length senders.found
 
 -- none of its frames waits, and they can be counted
 abbrev pub IsOver : Option Followed → Type 0

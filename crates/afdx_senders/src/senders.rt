@@ -1,12 +1,13 @@
 //! The systems of a switch, judged as senders while frames come at its ports.
 
 ghost use Rattle.std.specs.Prelude.{◌≡◌, ◌<◌, ◌∷◌, ◌^◌, ℕ, List, [], None, Option, Some};
-ghost use Rattle.std.specs.Prelude.{IfOk, OnErr, OnOk, length, slice_get};
+ghost use Rattle.std.specs.Prelude.{IfOk, IsSome, OnErr, OnOk, length, slice_get};
 ghost use Rattle.afdx_config.specs.Rows.{LinkRow};
 ghost use Rattle.afdx_conform.specs.LeewayOf.{leeway_of};
 ghost use Rattle.afdx_lawful.specs.Tallies.{counted};
 ghost use Rattle.afdx_lawful.specs.Ways.{IsApart};
 ghost use Rattle.afdx_police.specs.Arrival.{Arrival};
+ghost use Rattle.afdx_senders.specs.Counting.{lines_left};
 ghost use Rattle.afdx_senders.specs.History.{HaveTold, IsNoSooner, TellsNext};
 ghost use Rattle.afdx_senders.specs.Lines.{Line};
 ghost use Rattle.afdx_senders.specs.Settling.{IsEnd};
@@ -109,6 +110,10 @@ impl<'a> Senders<'a> {
             IsEnd end before z.asked.until → IfOk result (TellsNext z before xs told self.new) }
         ensures refused { (z : Setup) (by : Option ℕ) (xs : List Arrival) (told : List Line) →
             HaveTold z by xs told self.old → OnErr result (HaveBegun z by xs told) }
+        ensures less { (z : Setup) (by : Option ℕ) (xs : List Arrival) (told : List Line) →
+            HaveTold z by xs told self.old → IsNoSooner by before →
+            IsEnd end before z.asked.until → IfOk result (λ line. IsSome line →
+            lines_left self.new < lines_left self.old) }
     {
         self.settle(before, end)?;
         Ok(self.take_line(before))

@@ -1,13 +1,13 @@
 //! Frames of the senders that wait no longer, and what is told next.
 
 ghost use Rattle.std.specs.Prelude.{◌≡◌, ◌<◌, ◌≤◌, ◌∷◌, All, Some, ℕ, length, slice_get, true};
-ghost use Rattle.std.specs.Prelude.{IfNone, IfOk, IfSome, List, OnOk};
+ghost use Rattle.std.specs.Prelude.{IfNone, IfOk, IfSome, IsSome, List, OnOk};
 ghost use Rattle.std.specs.List.Sorted.{IsPermutation};
 ghost use Rattle.afdx_config.specs.Rows.{LinkRow};
 ghost use Rattle.afdx_law_bounds.specs.Tables.{port_of as port_at};
 ghost use Rattle.afdx_lawful.specs.Courses.{IsKnownBy, next_told};
 ghost use Rattle.afdx_lawful.specs.Partners.{Waiting};
-ghost use Rattle.afdx_senders.specs.Counting.{held_in_all};
+ghost use Rattle.afdx_senders.specs.Counting.{held_in_all, lines_left};
 ghost use Rattle.afdx_senders.specs.Followed.{ByPlace, Followed, put_at, told_next};
 ghost use Rattle.afdx_senders.specs.Lines.{AddsLines, lines_single, single_line};
 ghost use Rattle.afdx_senders.specs.Order.{AreInType, AreNotBefore, IsBefore, rank_of};
@@ -67,6 +67,7 @@ impl Senders<'_> {
         ensures in_time { IfSome result (IsBefore before) }
         ensures numbers { IfSome result AreInType }
         ensures rest { IfSome result (λ x. IsPermutation self.old.found (x ∷ self.new.found)) }
+        ensures less { IsSome result → lines_left self.new < lines_left self.old }
         ensures none { IfNone result (AreNotBefore before self.old.found) }
         ensures same { IfNone result (self.new ≡ self.old) }
         ensures stands { (at : ByPlace) → SendersStand at self.old → SendersStand at self.new }
@@ -96,6 +97,8 @@ impl Senders<'_> {
             IfOk result (λ waited. waited ≡ true) }
         ensures less { IfOk result (λ waited. waited ≡ true →
             held_in_all self.new.kept < held_in_all self.old.kept) }
+        ensures left { IfOk result (λ waited. waited ≡ true →
+            lines_left self.new ≤ lines_left self.old) }
         ensures sites { self.new.sites ≡ self.old.sites }
         ensures room { length self.new.kept.slots.items ≡ length self.old.kept.slots.items }
     {
@@ -117,6 +120,9 @@ impl Senders<'_> {
             SendersStand at self.old → AreSources t until at → IsEnd end before until →
             OnOk result ((steps : List Step) × Settled t before at steps self.new
             × AddsLines (lines_told t steps) self.old.found self.new.found) }
+        ensures left { (at : ByPlace) (until : ℕ) → SendersStand at self.old →
+            AreSources self.old.sites.tables.now until at → IsEnd end before until →
+            OnOk result (lines_left self.new ≤ lines_left self.old) }
         ensures sites { self.new.sites ≡ self.old.sites }
         ensures room { length self.new.kept.slots.items ≡ length self.old.kept.slots.items }
     {

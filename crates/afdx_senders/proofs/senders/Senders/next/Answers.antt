@@ -1,4 +1,4 @@
-use Rattle.std.proofs.Common.{ap, sym, subst}
+use Rattle.std.proofs.Common.{ap, arith, sym, subst}
 use Rattle.afdx_config.specs.Rows.{Rows}
 use Rattle.afdx_senders.specs.Lines.{AddsLines}
 use Rattle.afdx_senders.specs.Settling.{AreSources, Settled, lines_told}
@@ -32,3 +32,10 @@ returns-clause-told c z by xs told h later ends =
 pub returns-in_err-settle-clause-refused : goal.returns-in_err-settle-clause-refused
 returns-in_err-settle-clause-refused c z by xs told h =
     always_err (has_begun z by xs told _ h.lines) c.from_residual.result
+
+pub returns-clause-less : goal.returns-clause-less
+returns-clause-less c z by xs told h later ends some =
+    let sources = subst (λ (r : Rows). AreSources r z.asked.until h.at) (sym h.setup.tables)
+    (all_sources z xs h.at h.own) in
+    let no_more = c.in_ok-settle.ensures.left h.at z.asked.until h.stand sources ends in
+    let less = c.take_line.ensures.less some in omega (arith, no_more, less)

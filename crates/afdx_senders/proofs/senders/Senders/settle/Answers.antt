@@ -1,4 +1,4 @@
-use Rattle.std.proofs.Common.{◌≡◌, ℕ, length, List, Some, refl, sym, ◌∙◌, ap, subst}
+use Rattle.std.proofs.Common.{◌≡◌, ℕ, length, List, Some, arith, refl, sym, ◌∙◌, ap, subst}
 use Rattle.std.specs.Prelude.{slice_get}
 use Rattle.afdx_config.specs.Rows.{Rows}
 use Rattle.afdx_law_bounds.specs.Tables.{port_of}
@@ -7,6 +7,7 @@ use Rattle.afdx_senders.specs.Settling.{Step, after_steps, lines_told}
 use Rattle.afdx_senders.specs.declared.followed.FollowedSources.{FollowedSources}
 use Rattle.afdx_senders.specs.declared.sender_line.SenderLine.{SenderLine}
 use Rattle.afdx_senders.specs.declared.sites.SenderSites.{SenderSites}
+use Rattle.afdx_senders.proofs.CountingLemmas.{left_same}
 use Rattle.afdx_senders.proofs.SettlingLemmas.{due_frame, known_by, no_step, one_step, sources_after}
 use Rattle.afdx_senders.proofs.senders.Senders.settle.Goals as goal
 
@@ -17,6 +18,7 @@ pub loop-place-init : goal.loop-place-init
 loop-place-init c = record {
   sites = refl;
   room = refl;
+  left = omega arith;
   so_far = λ at until stand all ends.
       no_step c.args.self.now.sites.tables.now c.args.before at c.args.self.now stand;
 }
@@ -36,6 +38,11 @@ pub loop-place-preserved : goal.loop-place-preserved
 loop-place-preserved c = record {
   sites = c.tell.ensures.sites ∙ c.in-Some.ensures.sites ∙ c.loop-place.invariant.sites;
   room = c.tell.ensures.room ∙ ap room_of c.in-Some.ensures.kept ∙ c.loop-place.invariant.room;
+  left =
+      let fewer = c.in_ok-waited.ensures.left c.if-not-waited.false in
+      let same = left_same c.loop-place.self c.take_due.new.self c.in-Some.ensures.kept c.in-Some.ensures.found in
+      let before = c.loop-place.invariant.left in
+      omega (arith, fewer, same, before);
   so_far = λ at until stand all ends.
       let t = c.args.self.now.sites.tables.now in
       let place = c.in-Some.place in
@@ -70,6 +77,22 @@ returns-clause-settled c at until stand all ends =
       subst (λ (xs : List SenderLine). AddsLines (lines_told t far.steps) c.args.self.now.found xs)
           (sym c.in_default.ensures.found) far.lines,
     )
+
+pub returns-then-not-waited-clause-left : goal.returns-then-not-waited-clause-left
+returns-then-not-waited-clause-left c at until stand all ends =
+    let t = c.args.self.now.sites.tables.now in
+    let far = c.loop-place.invariant.so_far at until stand all ends in
+    let past = after_steps at far.steps in
+    let due = c.in-Some.ensures.due past far.stand in
+    let d = due_frame t until past c.in-Some.place due.0.0
+    (sources_after t until c.args.before at far.steps all far.are) due.0.1 in
+    let it_waited = c.in_ok-waited.ensures.waited past d.followed d.waited d.is d.next due.1 in
+    let told = c.if-not-waited.true in absurd (cc)
+
+pub returns-clause-left : goal.returns-clause-left
+returns-clause-left c at until stand all ends =
+    let same = left_same c.loop-place.self c.take_due.new.self c.in_default.ensures.kept c.in_default.ensures.found in
+    let before = c.loop-place.invariant.left in omega (arith, same, before)
 
 pub returns-in_err-waited-clause-room : goal.returns-in_err-waited-clause-room
 returns-in_err-waited-clause-room c =

@@ -1,4 +1,4 @@
-use Rattle.std.proofs.Common.{◌≡◌, None, Some, ap, sym, ◌∙◌, subst}
+use Rattle.std.proofs.Common.{◌≡◌, None, Some, ap, arith, sym, ◌∙◌, subst}
 use Rattle.std.proofs.lemmas.Option.{same_Some}
 use Rattle.afdx_law_bounds.specs.Tables.{port_of}
 use Rattle.afdx_lawful.specs.Courses.{IsKnownBy}
@@ -6,7 +6,7 @@ use Rattle.afdx_lawful.specs.Partners.{Waiting}
 use Rattle.afdx_lawful.specs.Unpaired.{IsToldOf}
 use Rattle.afdx_senders.specs.Followed.{AreFollowed, put_at, told_next}
 use Rattle.afdx_senders.specs.Lines.{AddsLines, single_line}
-use Rattle.afdx_senders.proofs.LineLemmas.{single_same}
+use Rattle.afdx_senders.proofs.LineLemmas.{one_line, single_same}
 use Rattle.afdx_senders.proofs.StandingLemmas.{awaited_next, none_next, put_others}
 use Rattle.afdx_senders.proofs.senders.Senders.tell.Goals as goal
 
@@ -51,3 +51,10 @@ returns-clause-found c at f y l there is next known stand =
     subst (λ ls. AddsLines ls c.args.self.now.found c.put_single.new.found)
     (ap (λ n. single_line n told.line told.side told.moment told.is_cut) (c.port_of-port.ensures l there)
     ∙ single_same (port_of c.args.self.now.sites.tables.now l.from) f y told of) c.in_ok-put_single.ensures
+
+pub returns-clause-left : goal.returns-clause-left
+returns-clause-left c waited =
+    let told = c.in-Some.told in
+    let fewer = c.in-Some.ensures.less in
+    let more = one_line c.port_of-port.result told.line told.side told.moment told.is_cut c.args.self.now.found
+    c.put_single.new.found c.in_ok-put_single.ensures in omega (arith, fewer, more)
