@@ -66,7 +66,7 @@ MEMORY = {
 # how many are still larger than they may be
 LARGE = {"clauses": 0, "values": 3, "bodies": 0}
 # how many may still go
-SPARE = {"definitions that nothing reaches": 0, "exports that no other crate names": 4}
+SPARE = {"definitions that nothing reaches": 0, "exports that no other crate names": 3}
 OF_TWO = ["{1} {0}", "list {0} {1}"]  # the forms of one of two recordings, and of two lists
 SCRIPTS = ["tests/**/*.py", "tests/**/*.sh", "tests/**/*.c", "examples/*.py"]
 SCRIPTS += ["bench/*", "bin/*", "bin/printing/*.py", "bin/lib/*.sh"]

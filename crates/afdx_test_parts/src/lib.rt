@@ -31,6 +31,10 @@ mod port;
 #[cfg(test)]
 mod recordings;
 #[cfg(test)]
+mod sender_text;
+#[cfg(test)]
+mod senders;
+#[cfg(test)]
 mod solve;
 #[cfg(test)]
 mod text;
