@@ -81,24 +81,45 @@ module _ (Takes : List (Item Seen) → Result SeenCount RunFault → Type 0)
       where
         w : WritesLines old h.written (AreAll (frames_of h.is_told.items)) h.last
         w = all h.written h.is_told.items h.last h.is_told.done h.is_told.counted
+
         by : ((fault_behind is_lossy h.count ≡ Some fault) × (new ≡ h.written))
             ⊎ ((fault_behind is_lossy h.count ≡ None) × IsOfOutput fault
             × AppendsFront h.written new (conform_text (Judged h.last)))
             → RunAnswers Takes AreAll AreEarly AreFirst is_lossy old new (Err fault)
         by (inl (behind, same)) =
-            inr (h.is_told.items, h.count, h.is_told.takes, inl (behind, (h.last, record {
-              lines = w.lines;
-              are_so = w.are_so;
-              written = subst (λ (o : Option (List ℕ)). Appends old o (lines_text w.lines)) (sym same) w.written;
-            })))
+            inr (
+              h.is_told.items,
+              h.count,
+              h.is_told.takes,
+              inl (
+                behind,
+                (
+                  h.last,
+                  record {
+                    lines = w.lines;
+                    are_so = w.are_so;
+                    written = subst (λ (o : Option (List ℕ)). Appends old o (lines_text w.lines)) (sym same) w.written;
+                  },
+                ),
+              ),
+            )
         by (inr (none, of, begun)) =
-            inr (h.is_told.items, h.count, h.is_told.takes, inr (none, of, record {
-              lines = w.lines;
-              last = h.last;
-              are_so = w.are_so;
-              begun = front-more old h.written new (lines_text w.lines) (conform_text (Judged h.last)) w.written
-                  begun;
-            }))
+            inr (
+              h.is_told.items,
+              h.count,
+              h.is_told.takes,
+              inr (
+                none,
+                of,
+                record {
+                  lines = w.lines;
+                  last = h.last;
+                  are_so = w.are_so;
+                  begun = front-more old h.written new (lines_text w.lines) (conform_text (Judged h.last)) w.written
+                      begun;
+                },
+              ),
+            )
 
     pub run-answers : (answer : Result RunCounts RunFault)
         → RunTells Takes Done Told Begun HasCounted is_lossy old new answer

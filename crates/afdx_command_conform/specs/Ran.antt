@@ -50,10 +50,10 @@ module _ (Takes : List (Item Seen) → Result SeenCount RunFault → Type 0)
   -- all frames were taken and all is told, with that answer; then the output held `written`
   pub record IsToldTo (count : SeenCount) (written : Option (List ℕ)) (last : Conclusion) : Type 0
     where
-    pub items : List (Item Seen)
-    pub takes : Takes items (Ok count)
-    pub done : Done old written items
-    pub counted : HasCounted last
+      pub items : List (Item Seen)
+      pub takes : Takes items (Ok count)
+      pub done : Done old written items
+      pub counted : HasCounted last
 
   -- not all were: all so far is told; of want of memory, or behind a failed write, or a beginning
   pub record IsToldIn (fault : RunFault) : Type 0 where

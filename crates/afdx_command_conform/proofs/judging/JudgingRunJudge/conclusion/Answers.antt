@@ -13,16 +13,16 @@ use Rattle.afdx_command_conform.proofs.judging.JudgingRunJudge.conclusion.Goals 
 
 pub returns : goal.returns
 returns c = λ k start end past h.
-      let all = all-lines k c.args.self.now start end past h in
-      let until = until_or k.1.until (frames_of past) in
-      record {
-        lines = lines_of all.0;
-        written = all.2.written;
-        are_so = record {
-          dues = all.0;
-          are = refl;
-          are_lines = all.1;
-          last_is = c.conclusion-value.ensures ∙ ap (λ (n : Totals). concluded n) (totals-are k (frames_of past) all.0 _
+    let all = all-lines k c.args.self.now start end past h in
+    let until = until_or k.1.until (frames_of past) in
+    record {
+      lines = lines_of all.0;
+      written = all.2.written;
+      are_so = record {
+        dues = all.0;
+        are = refl;
+        are_lines = all.1;
+        last_is = c.conclusion-value.ensures ∙ ap (λ (n : Totals). concluded n) (totals-are k (frames_of past) all.0 _
             (c.count.ensures.findings ∙ c.new-totals.ensures.findings ∙ all.2.findings_are)
             (c.count.ensures.left_out ∙ c.new-totals.ensures.left_out ∙ all.2.left_out_are)
             (c.count.ensures.unseen ∙ c.new-totals.ensures.unseen ∙ c.unseen-unseen.ensures
@@ -35,5 +35,5 @@ returns c = λ k start end past h.
             (c.count.ensures.counted k.1 until (frames_of past) (ap (λ (o : Choices). o.taps) all.2.choices_are)
             (all-ended k c.args.self.now start end past h)
             c.new-totals.ensures.counted)));
-        };
-      }
+      };
+    }
