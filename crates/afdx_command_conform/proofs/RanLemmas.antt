@@ -39,8 +39,8 @@ where-known (Some x) P f = f x refl
 
 -- what a run writes: as `Ran` has it
 module _ (Takes : List (Item Seen) → Result SeenCount RunFault → Type 0)
-    (AreAll : List Frame → List ConformLine → Conclusion → Type 0) (AreEarly AreFirst : List Frame → List ConformLine → Type 0)
-    (is_lossy : Bool) where
+    (AreAll : List Frame → List ConformLine → Conclusion → Type 0)
+    (AreEarly AreFirst : List Frame → List ConformLine → Type 0) (is_lossy : Bool) where
   -- there was no memory at the begin
   pub answers-memory : (old : Option (List ℕ)) → AreEarly [] [] → Takes [] (Err Memory)
       → RunAnswers Takes AreAll AreEarly AreFirst is_lossy old old (Err Memory)
@@ -57,8 +57,8 @@ module _ (Takes : List (Item Seen) → Result SeenCount RunFault → Type 0)
   -- what is told of items is their lines, and what is counted is of them
   module _ (Done Told Begun : (start written : Option (List ℕ)) → List (Item Seen) → Type 0)
       (HasCounted : Conclusion → Type 0) (old new : Option (List ℕ))
-      (all : (mid : Option (List ℕ)) (items : List (Item Seen)) (last : Conclusion) → Done old mid items → HasCounted last
-      → WritesLines old mid (AreAll (frames_of items)) last)
+      (all : (mid : Option (List ℕ)) (items : List (Item Seen)) (last : Conclusion) → Done old mid items
+      → HasCounted last → WritesLines old mid (AreAll (frames_of items)) last)
       (early : (items : List (Item Seen)) → Told old new items → Writes old new (AreEarly (frames_of items)))
       (first : (items : List (Item Seen)) → Begun old new items → Begins old new (AreFirst (frames_of items))) where
     some : (items : List (Item Seen)) → Told old new items ⊎ Begun old new items

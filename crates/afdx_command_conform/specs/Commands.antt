@@ -96,5 +96,11 @@ module _ {E : Type 0} (error_bytes : E → Option (List ℕ)) (config : List ℕ
       × (IsUnread error_bytes old new config ended.status ⊎ HasNoSwitch)
 
   -- a run ended the command, or there are no tables, and this holds
-  abbrev pub IsJudgedOr : (Rows → Result RunCounts RunFault → Type 0) → Type 0 → Type 0
-  IsJudgedOr ran untouched = IsJudged ran ⊎ (IsUnjudged × untouched)
+  abbrev pub IsAnsweredOr : (Rows → Result RunCounts RunFault → Type 0) → Type 0 → Type 0
+  IsAnsweredOr ran untouched = IsJudged ran ⊎ (IsUnjudged × untouched)
+
+-- of what is asked of a switch
+abbrev pub IsJudgedOr : {E : Type 0} → (E → Option (List ℕ)) → Question → (old new : Watched E) →
+    Judged → (Rows → Result RunCounts RunFault → Type 0) → Type 0 → Type 0
+IsJudgedOr error_bytes question =
+    IsAnsweredOr error_bytes question.config.now (name_in question)

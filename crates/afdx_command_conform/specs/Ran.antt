@@ -85,8 +85,9 @@ module _ (Takes : List (Item Seen) → Result SeenCount RunFault → Type 0)
 
 -- ---- by its lines
 
--- `Takes` is the same. Of frames and lines the others say whether these are all, with that answer; exactly those of moments before
--- the time of the last frame; some of the first. The output held `old` and holds `new`.
+-- `Takes` is the same. Of frames and lines the others say whether these are all, with that answer;
+-- exactly those of moments before the time of the last frame; some of the first. The output held
+-- `old` and holds `new`.
 module _ (Takes : List (Item Seen) → Result SeenCount RunFault → Type 0)
     (AreAll : List Frame → List ConformLine → Conclusion → Type 0)
     (AreEarly AreFirst : List Frame → List ConformLine → Type 0)

@@ -2,7 +2,7 @@
 
 ghost use Rattle.std.specs.Prelude.{◌≡◌, ◌||◌, ◌⊎◌, true, false, option_map};
 ghost use Rattle.afdx_command_conform.specs.Commands as spec;
-ghost use Rattle.afdx_command_conform.specs.Commands.{EndsAs, IsJudgedOr, IsRun, IsToldNoSwitch, name_in};
+ghost use Rattle.afdx_command_conform.specs.Commands.{EndsAs, IsJudgedOr, IsRun, IsToldNoSwitch};
 ghost use Rattle.afdx_command_conform.specs.Ran.{Answers};
 ghost use Rattle.afdx_input_runs.specs.Arrivals.{TakesFrames};
 
@@ -112,8 +112,7 @@ pub fn conform<P: Tapping + Drop, A: RunInput<P, Seen>, O: Sink, E: Write>(
 
     // The command ends as a run by the tables of the switch answered; or the configuration isn't
     // read, or has no such switch: then nothing is read and nothing is written.
-    ensures judges { IsJudgedOr E.contents question.entry.config.now (name_in question.entry)
-        errors.old errors.new result
+    ensures judges { IsJudgedOr E.contents question.entry errors.old errors.new result
         (λ t answer. IsRun (A.ended inputs.new) (A.failed inputs.new) (O.failed output.new) answer
         × Answers (A.known inputs.old) (A.Takes TakesFrames options) inputs.new t (P.tapped options)
         question.entry.choices.now (O.written output.old) (O.written output.new) answer)

@@ -26,7 +26,8 @@ pub struct RunCounts {
     pub count: SeenCount,
 }
 
-/// Whose run it is: the tables of a switch; and whether it doesn't matter that recorders lost frames.
+/// Whose run it is: the tables of a switch; and whether it doesn't matter that recorders lost
+/// frames.
 #[derive(Clone, Copy, Debug)]
 pub struct RunTerms<'a> {
     pub tables: &'a Tables,
@@ -55,8 +56,9 @@ fn fault_behind(is_lossy: bool, count: &SeenCount) -> Option<RunFault>
     }
 }
 
-/// Lets what is judged take frames that were recorded at a switch, and tell; gives its answer, with what it counted.
-/// What came in at a port of which nothing is said came in at the port of the sender that it names.
+/// Lets what is judged take frames that were recorded at a switch, and tell; gives its answer, with
+/// what it counted. What came in at a port of which nothing is said came in at the port of the
+/// sender that it names.
 ///
 /// Frames are taken by time, at one time what came first. The last line is written when the inputs
 /// have ended. The first fault ends the run, without a last line. In the place of the last line
@@ -81,13 +83,12 @@ pub fn run_judged<P, A: RunInput<P, Seen>, J: Judge, O: Sink>(
     ensures asked { A.IsAskedFew options inputs.old inputs.new }
 
     // Where the bytes are known: what is answered, and told, for the frames that it takes.
-    ensures answer { (rules : J.Rules) →
-        J.Told rules judge.old (O.written output.old) (O.written output.old) [] →
-        CanAll (J.Can rules) → IfSome (A.known inputs.old) (λ bytes. RunTells
+    ensures answer { let start = O.written output.old in (rules : J.Rules) →
+        J.Told rules judge.old start start [] → CanAll (J.Can rules) →
+        IfSome (A.known inputs.old) (λ bytes. RunTells
         (A.Takes TakesFrames options (ports_of_one terms.entry.tables.now) bytes inputs.new)
         (J.Done rules judge.new) (J.Told rules judge.new) (J.Begins rules judge.new)
-        (J.HasCounted judge.new) terms.entry.is_lossy
-        (O.written output.old) (O.written output.new) result) }
+        (J.HasCounted judge.new) terms.entry.is_lossy start (O.written output.new) result) }
 {
     let reading = Reading {
         unsaid: UnsaidPort::OfSender(terms.tables),

@@ -22,7 +22,7 @@ returns c = λ k start end past h.
         dues = all.0;
         are = refl;
         are_lines = all.1;
-        last_is = c.conclusion-value.ensures ∙ ap (λ (n : Totals). concluded n) (totals-are k (frames_of past) all.0 _
+        last_is = c.conclusion.ensures ∙ ap (λ (n : Totals). concluded n) (totals-are k (frames_of past) all.0 _
             (c.count.ensures.findings ∙ c.new-totals.ensures.findings ∙ all.2.findings_are)
             (c.count.ensures.left_out ∙ c.new-totals.ensures.left_out ∙ all.2.left_out_are)
             (c.count.ensures.unseen ∙ c.new-totals.ensures.unseen ∙ c.unseen-unseen.ensures
