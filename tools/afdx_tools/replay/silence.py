@@ -90,6 +90,8 @@ class Silences:
         times = [self.counting.listing.time[lines] for lines in heard.lines]
         least = LEAST * max(heard.bag, usual)
         is_dead = heard.level == NETWORK and not len(times[side]) and len(times[1 - side])
+        if self.end - self.begin <= least and not is_dead:
+            return
         none = np.zeros(1, np.int64)
         edges = np.concatenate(([self.begin], times[side], [self.end]))
         lines = np.concatenate((none, heard.lines[side], none))
@@ -178,8 +180,8 @@ def groups_by(keys: np.ndarray, lines: np.ndarray) -> dict[int, np.ndarray]:
 def usual_gap(times: np.ndarray) -> int:
     """What nearly all gaps between these don't exceed: all but the longest twentieth of them, and
     all but the two longest; 0 where there is none."""
-    gaps = np.diff(times)
-    if not len(gaps):
+    if len(times) < 2:
         return 0
+    gaps = np.diff(times)
     rank = max(len(gaps) - 1 - max(len(gaps) // 20, 2), 0)
     return int(np.partition(gaps, rank)[rank])
