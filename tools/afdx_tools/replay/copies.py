@@ -110,16 +110,26 @@ def alone_of(counting: Counting, other: np.ndarray, silences: Silences) -> np.nd
     _, apart = later_on_b(counting, other)
     shift = int(np.median(apart)) if len(apart) else 0
     accepted = of_kinds(counting, (ACCEPT,))
-    lines, keys, times = in_rounds(counting, of_kinds(counting, NUMBERED), shift)
+    single = np.zeros(listing.lines + 1, bool)
+    single[accepted[other[accepted] == 0]] = True
+    lines, keys, times = in_rounds(counting, alike(counting, single), shift)
     far = nearest_there(keys, times, listing.side[lines]) > half_rounds(counting)[place[lines]]
-    lines = np.sort(lines[far])
-    lines = lines[np.isin(lines, accepted[other[accepted] == 0])]
+    lines = np.sort(lines[far & single[lines]])
     skews = [counting.config.links[vl].skew_ns for vl in counting.order]
     usual = 2 * int(np.abs(apart - shift).max(initial=0)) + LEAST_OFFSET
     near = np.minimum(np.array([*skews, 0], np.int64)[place[lines]], usual)
     times = listing.time[lines] + np.where(listing.side[lines] == 0, shift, -shift)
     inside = (times - near > silences.begin) & (times + near < silences.end)
     return lines[inside & ~silences.cover(lines, near + abs(shift))]
+
+
+def alike(counting: Counting, single: np.ndarray) -> np.ndarray:
+    """The lines whose bytes are those of a sender, with link and number of a line that is
+    `single`."""
+    lines, number = of_kinds(counting, NUMBERED), counting.listing.number
+    known = np.zeros(len(counting.vls) * 256, bool)
+    known[counting.place[single] * 256 + number[single]] = True
+    return lines[known[counting.place[lines] * 256 + number[lines]]]
 
 
 def nearest_there(keys: np.ndarray, times: np.ndarray, side: np.ndarray) -> np.ndarray:

@@ -162,12 +162,13 @@ class Counting:
         keys = (self.links[at].astype(np.int64) * self.ports + self.events.port[at]) * 2
         keys += self.sides[at]
         order = order_of(keys)
-        keys, at, latency, late = keys[order], at[order], latency[order], (latency > asked)[order]
-        bounds = np.flatnonzero(np.diff(keys, prepend=-1, append=-1))
+        keys, latency, late = keys[order], latency[order], (latency > asked)[order]
+        bounds = np.flatnonzero(np.diff(keys, prepend=-1, append=-1)).tolist()
         paths = []
         for begin, end in zip(bounds[:-1], bounds[1:]):
             seen, key = latency[begin:end], int(keys[begin])
-            worst, count = int(at[begin + np.argmax(seen)]), int(late[begin:end].sum())
+            count = int(late[begin:end].sum())
+            worst = int(at[order[begin + np.argmax(seen)]])
             link, port = self.vls[key // 2 // self.ports], key // 2 % self.ports
             paths.append(Path(link, port, key % 2, np.sort(seen), worst, count))
         return paths

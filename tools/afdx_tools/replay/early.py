@@ -11,7 +11,7 @@ from typing import IO
 import numpy as np
 
 from afdx_tools.faults import Refused
-from afdx_tools.replay.lines import Block, blocks_of
+from afdx_tools.replay.lines import Block, blocks_of, readable
 from afdx_tools.replay.named import Named
 from afdx_tools.replay.sites import Sites
 
@@ -34,7 +34,7 @@ class Early:
         self.named, self.over_rate, self.sites = named, over_rate, sites
         self.parts = [(np.zeros(0, np.int32), np.zeros(0, np.int64))]
         others, end = [], 0
-        for block in blocks_of(file, ended=True):
+        for block in blocks_of(readable(file), ended=True):
             end += int(block.ends[-1]) + 1
             others += self.take(block)
         file.seek(end)

@@ -15,12 +15,18 @@ ONE, SEVEN, BYTE, TOP = map(np.uint64, (1, 7, 8, 56))
 TEN, HALF, LOW = np.uint64(10), np.uint64(32), np.uint64(0xFF_0000_00FF)
 THOUSANDS = np.uint64(1_000_000 << 32 | 100)  # of the first and the third pair of digits
 UNITS = np.uint64(10_000 << 32 | 1)  # of the second and the fourth
+MASKS = np.array([*((1 << 8 * n) - 1 for n in range(9)), *[2**64 - 1] * 8], np.uint64)  # of bytes
 POWERS = np.array([10**n for n in range(9)], np.uint64)
 
 
 def windows(text: np.ndarray) -> Eights:
     """The eight bytes from each place of a text on; it is read where it lies."""
     return np.ndarray((len(text) - 7,), "<u8", buffer=text, strides=(1,))
+
+
+def fours(text: np.ndarray) -> np.ndarray:
+    """The same of four bytes."""
+    return np.ndarray((len(text) - 3,), "<u4", buffer=text, strides=(1,))
 
 
 def before(marks: Eights) -> Eights:

@@ -10,7 +10,7 @@ from afdx_tools.faults import Refused
 from afdx_tools.known import drops
 from afdx_tools.replay.early import Early
 from afdx_tools.replay.hops import Came, Hops
-from afdx_tools.replay.lines import SPACE, Block, blocks_of
+from afdx_tools.replay.lines import SPACE, Block, blocks_of, readable
 from afdx_tools.replay.listing import SIDES, Listing
 from afdx_tools.replay.named import Named
 
@@ -56,7 +56,7 @@ class Events:
 
     def read(self, file: IO[bytes], report: Callable[[int], None] = lambda line: None) -> None:
         """Takes the lines of `replay`, and joins them. A last line that was cut doesn't count."""
-        for block in blocks_of(file, ended=True, joined=b"D"):
+        for block in blocks_of(readable(file), ended=True, joined=b"D"):
             self.take(block, report)
         joined = {name: np.concatenate([p[name] for p in self.parts]) for name in self.parts[0]}
         self.parts = []
@@ -93,11 +93,14 @@ class Events:
         if len(lines):
             report(int(lines[-1]))
         found = [self.lost(block), self.departed(block), self.old(block)]
-        part = {name: np.concatenate([one[name] for one in found]) for name in found[0]}
-        if len(found[0]["at"]) or len(found[2]["at"]):  # else all left, and stand in their order
+        found = [one for one in found if len(one["at"])]
+        if len(found) > 1:  # else they stand in their order
+            part = {name: np.concatenate([one[name] for one in found]) for name in found[0]}
             order = np.argsort(part["at"], kind="stable")
-            part = {name: column[order] for name, column in part.items()}
-        self.parts.append(part)
+            found = [{name: column[order] for name, column in part.items()}]
+        for part in found:
+            del part["at"]
+            self.parts.append(part)
 
     def judged(self, block: Block) -> np.ndarray:
         """`V n PLACE accept` or `V n PLACE drop WORD`"""
@@ -120,17 +123,22 @@ class Events:
         self.verdict[lines] = verdict
         return lines
 
-    def site(self, block: Block, at: np.ndarray) -> tuple[np.ndarray, np.ndarray]:
-        """Of `PLACE port`, which begins there, the letter of the side, and the port."""
-        switch, after = self.sites.read(block, at)
-        port, _ = block.numbers(after + 1)
-        return block.at(at), MOST_PORTS * switch + port
+    def site(
+        self, block: Block, lines: np.ndarray, at: np.ndarray
+    ) -> tuple[np.ndarray, np.ndarray]:
+        """Of `PLACE port`, with which these lines end and which begins there, the letter of the
+        side, and the port."""
+        port, side, blank = block.last_ports(lines)
+        if self.sites.are_several:
+            side = block.at(at)
+            port = MOST_PORTS * self.sites.between(block, at + 2, blank) + port
+        return side, port
 
     def lost(self, block: Block) -> dict[str, np.ndarray]:
         """`L n PLACE port`: the time is that of the list's line."""
         at = np.flatnonzero(block.heads == LETTERS["L"])
         numbers, end = block.numbers(block.starts[at] + 2)
-        side, port = self.site(block, end + 1)
+        side, port = self.site(block, at, end + 1)
         line = self.named.of(numbers, side)
         return copies(at, line, self.listing.time[line], port, LOST)
 
@@ -154,7 +162,7 @@ class Events:
         at = np.flatnonzero(block.heads == LETTERS[letter])
         numbers, end = block.numbers(block.starts[at] + 2)
         time, end = block.numbers(end + 1)
-        side, port = self.site(block, end + 1)
+        side, port = self.site(block, at, end + 1)
         return copies(at, self.named.of(numbers, side), time, port, fate)
 
     def side_of_copies(self) -> np.ndarray:
@@ -186,7 +194,9 @@ def side_name(side: int) -> str:
 def none_at_all() -> dict[str, np.ndarray]:
     """The columns of no copies."""
     none = np.zeros(0, np.int64)
-    return copies(none, none, none, none, LEFT)
+    columns = copies(none, none, none, none, LEFT)
+    del columns["at"]
+    return columns
 
 
 def copies(
@@ -197,7 +207,7 @@ def copies(
         "at": at,
         "line": line.astype(np.int32),
         "time": time,
-        "port": port.astype(np.int16),
+        "port": port.astype(np.int16, copy=False),
         "fate": np.full(len(at), FATES.index(fate), np.int8),
         "end": np.full(len(at), NOT_YET, np.int8),
     }

@@ -60,19 +60,21 @@ class Hops:
         if not np.array_equal(line[cables], lines[brought]):
             raise Refused(OTHERS)
         came_in[brought], times[brought] = self.far[port[cables]], time[cables]
-        if (came_in // MOST_PORTS != switch).any():
+        if (came_in // MOST_PORTS != switch).any() or (port < 0).any():
             raise Refused(OTHERS)
         came = Came(lines, came_in, times, verdict)
-        return came, since_of(came, line, port)
+        return came, self.since_of(came, line, port)
 
-
-def since_of(came: Came, line: np.ndarray, port: np.ndarray) -> np.ndarray:
-    """Of each copy when its frame came to the switch of its port and was accepted there."""
-    accepted = np.flatnonzero(came.verdict == 0)
-    keys = came.line[accepted].astype(np.int64) * MOST_PORTS + came.port[accepted] // MOST_PORTS
-    order = np.argsort(keys, kind="stable")
-    wanted = line.astype(np.int64) * MOST_PORTS + port // MOST_PORTS
-    place = np.minimum(np.searchsorted(keys[order], wanted), max(len(keys) - 1, 0))
-    if len(wanted) and not (len(keys) and np.array_equal(keys[order][place], wanted)):
-        raise Refused(OTHERS)
-    return came.time[accepted][order][place] if len(wanted) else np.zeros(0, np.int64)
+    def since_of(self, came: Came, line: np.ndarray, port: np.ndarray) -> np.ndarray:
+        """Of each copy when its frame came to the switch of its port and was accepted there."""
+        switches = len(self.far) // MOST_PORTS
+        accepted = np.flatnonzero(came.verdict == 0)
+        keys = came.line[accepted].astype(np.int64) * switches + came.port[accepted] // MOST_PORTS
+        wanted = line.astype(np.int64) * switches + port // MOST_PORTS
+        most = max(int(keys.max(initial=0)), int(wanted.max(initial=0)))
+        place = np.full(most + 1, -1, np.int32)
+        place[keys] = accepted
+        found = place[wanted]
+        if (found < 0).any():
+            raise Refused(OTHERS)
+        return came.time[found]

@@ -7,16 +7,19 @@ from __future__ import annotations
 
 import contextlib
 import ctypes
-from typing import Iterator, Protocol
+from typing import IO, Iterator, Protocol, cast
 
 import numpy as np
 
-from afdx_tools.replay.eights import POWERS, digits, windows
+from afdx_tools.replay.eights import POWERS, digits, fours, windows
 
 SPACE, LINE_FEED, RETURN = 32, 10, 13
 EACH = 2 << 20  # bytes of text that are looked at together
 TRIM_THRESHOLD, MMAP_THRESHOLD = -1, -3  # options of mallopt
 PADDING = bytes(64)  # what is read after a text, at most
+PORTS = np.zeros(1 << 16, np.int16)  # by the last two bytes of a line: its last number, below 100
+PORTS[np.frombuffer(b"".join(b"%2d" % n for n in range(100)), "<u2")] = range(100)
+PORTS[np.frombuffer(b"".join(b"%02d" % n for n in range(10)), "<u2")] = range(10)
 
 
 def keep_memory() -> None:
@@ -36,6 +39,11 @@ class Readable(Protocol):
         ...
 
 
+def readable(file: IO[bytes]) -> Readable:
+    """A file that fills rooms, as each does that was opened in binary."""
+    return cast(Readable, file)
+
+
 class Block:
     """Whole lines of text: where each begins and ends, and the letter that it begins with; of each
     place of the text the `eights` from there on. The text is copied, but where its first `size`
@@ -45,6 +53,7 @@ class Block:
         whole = bytes(text) + PADDING if size is None else text
         self.bytes = np.frombuffer(whole, np.uint8)
         self.eights = windows(self.bytes)
+        self.fours = fours(self.bytes)
         self.ends = np.flatnonzero(self.bytes[:size] == LINE_FEED)
         self.starts = np.concatenate((np.zeros(1, np.int64), self.ends[:-1] + 1))
         self.heads = self.bytes[self.starts]
@@ -76,6 +85,16 @@ class Block:
             left = left[length == 8]
         return values.view(np.int64), places
 
+    def last_ports(self, lines: np.ndarray) -> tuple[np.ndarray, np.ndarray, np.ndarray]:
+        """Of lines that end with a space and a number of one or two digits: that number, the byte
+        before the space, and the place of the space."""
+        ends = self.ends[lines]
+        tails = self.fours[ends - 4]
+        ports = PORTS[tails >> np.uint32(16)]
+        is_long = tails & np.uint32(0xFF_0000) != SPACE << 16
+        before = np.where(is_long, tails, tails >> np.uint32(8)).astype(np.uint8)
+        return ports, before, ends - 2 - is_long
+
     def last_words(self, lines: np.ndarray) -> tuple[list[str], np.ndarray]:
         """The words that these lines end with, and for each line the place of its word among them.
         Words are told apart by their last eight bytes; the lines must have as many."""
@@ -90,15 +109,15 @@ def blocks_of(
 ) -> Iterator[Block]:
     """The text of a file in blocks, each of use until the next one is asked for. A last line
     without a line feed gets one, or is left out where all lines should be `ended`. A block that no
-    line ends in gets one too: such a line is too long for the program. A line that begins with what
-    is `joined` to the next one stands in a block with it."""
+    line ends in gets one too: such a line is too long for the program. A line that begins with
+    `joined` stands in a block with the next one, if that doesn't begin so, and if there is room."""
     room, held = bytearray(each + 1 + len(PADDING)), 0
     with memoryview(room) as view:
         while read := file.readinto(view[held:each]):
             end = held + read
             cut = room.rfind(b"\n", 0, end) + 1
             last = room.rfind(b"\n", 0, max(cut - 1, 0)) + 1
-            if cut and joined and room.startswith(joined, last):
+            if joined and last and room.startswith(joined, last):
                 cut = last
             if not cut and end == each:
                 view[each] = LINE_FEED

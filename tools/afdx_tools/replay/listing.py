@@ -8,7 +8,7 @@ import numpy as np
 
 from afdx_tools.config import MOST_PORTS
 from afdx_tools.lists import MOST_LINES
-from afdx_tools.replay.lines import RETURN, SPACE, Block, Readable, blocks_of
+from afdx_tools.replay.lines import RETURN, SPACE, Block, Readable, blocks_of, readable
 from afdx_tools.replay.sites import Sites
 
 NO_LINK = -1  # stands for frames that name no link of the configuration
@@ -44,9 +44,9 @@ class Listing:
         digest = hashlib.sha256()  # of a list; recordings are files of their own
         parts: list[dict[str, np.ndarray]] = [columns_of_none()]
         lines = 0
-        source: Readable = file
+        source = readable(file)
         if not is_recorded:
-            source = Hashed(file, digest.update)
+            source = Hashed(source, digest.update)
         for block in blocks_of(source):
             if not is_recorded:
                 block = block.first(most - lines)
@@ -70,6 +70,15 @@ class Listing:
         self.network = joined["network"]
         self.arrivals = np.flatnonzero(self.sound)
 
+    def end_at(self, most: int) -> None:
+        """Forgets all lines but the first ones."""
+        if most >= self.lines:
+            return
+        self.lines = most
+        for name in columns_of_none():
+            setattr(self, name, getattr(self, name)[: most + 1])
+        self.arrivals = np.flatnonzero(self.sound)
+
 
 class Hashed:
     """A file whose bytes, as they are read, are handed to `update` as well."""
@@ -79,7 +88,7 @@ class Hashed:
 
     def readinto(self, room: memoryview) -> int | None:
         """The next bytes of the file."""
-        read = self.file.readinto(room)
+        read = self.file.readinto(room) or 0
         self.update(room[:read])
         return read
 

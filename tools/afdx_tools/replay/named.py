@@ -20,6 +20,7 @@ class Named:
         self.lines[known] = known
         self.numbers = self.lines.copy()
         self.seen = np.zeros(0, bool)  # of each key whether a verdict had it
+        self.last = np.zeros(0, np.int32)  # of a key the place of a verdict among some
 
     def keys(self, numbers: np.ndarray, sides: np.ndarray | None) -> np.ndarray:
         """What tells these frames from all others; `sides` are the letters beside the numbers."""
@@ -34,9 +35,10 @@ class Named:
         most = int(keys.max(initial=0))
         if most >= len(self.seen):
             self.seen = np.pad(self.seen, (0, 2 * most + 1 - len(self.seen)))
-        first = np.zeros(len(keys), bool)
-        first[np.unique(keys, return_index=True)[1]] = True
-        first &= ~self.seen[keys]
+            self.last = np.zeros(len(self.seen), np.int32)
+        places = np.arange(len(keys), dtype=np.int32)
+        self.last[keys[::-1]] = places[::-1]  # so the first of equal ones is written last
+        first = (self.last[keys] == places) & ~self.seen[keys]
         self.seen[keys] = True
         return first
 
@@ -61,7 +63,9 @@ class Named:
     def of(self, numbers: np.ndarray, sides: np.ndarray | None = None) -> np.ndarray:
         """The lines of these numbers; Refused where one has none."""
         keys = self.keys(numbers, sides)
-        lines = self.lines[np.where(keys < len(self.lines), keys, 0)]
+        if int(keys.max(initial=0)) >= len(self.lines):
+            keys = np.where(keys < len(self.lines), keys, 0)
+        lines = self.lines[keys]
         if not lines.all():
             raise gone(numbers[np.flatnonzero(lines == 0)[0]])
         return lines

@@ -110,7 +110,7 @@ def listed_of(source: Source, sites: Sites, progress: Progress, is_run: bool) ->
         progress.report(f"{count:,} lines of the list read")
 
     if not source.is_recorded:
-        most = taken_of(source.paths[0], sites) if is_run else 0
+        most = MOST_LINES if is_run else 0  # after a fault `replay` forgets those behind it
         with open(source.paths[0], "rb") as file:
             return Listed(Listing(file, report, most=most, sites=sites))
     with tempfile.TemporaryFile() as errors:
@@ -132,7 +132,8 @@ def listed_of(source: Source, sites: Sites, progress: Progress, is_run: bool) ->
 def replay(
     source: Source, config: Config, listed: Listed, progress: Progress
 ) -> tuple[Events, str, int]:
-    """Runs the replay and takes its lines; its fault line and its status."""
+    """Runs the replay and takes its lines; its fault line and its status. The list ends where the
+    program took no more of it."""
     events = Events(listed.listing, config)
     most = max(listed.listing.lines, 1)
     with tempfile.TemporaryFile() as errors:
@@ -143,6 +144,8 @@ def replay(
             events.read(
                 run.stdout, lambda line: progress.report(f"{100 * line // most} % of the replay")
             )
+        if run.returncode and not source.is_recorded and listed.listing.lines:
+            listed.listing.end_at(taken_of(source.paths[0], listed.listing.sites))
         errors.seek(0)
         fault = shown(events.read_errors(errors))
     if run.returncode < 0:

@@ -70,21 +70,28 @@ class Silences:
         times = counting.listing.time[counting.arrived]
         self.begin, self.end = (int(times[0]), int(times[-1])) if len(times) else (0, 0)
         self.found = {
-            (one.level, one.name, side_name(side)): list(self.silent(one, side))
+            (one.level, one.name, side_name(side)): list(self.silent(one, side, usual))
             for one in heard(counting)
+            for usual in [self.usual(one)]
             for side in (0, 1)
         }
         left = {key: self.unexplained(key, found) for key, found in self.found.items()}
         names = dict.fromkeys((level, name) for level, name, _ in left)
         self.rows = [row for key in names for row in merged(left[(*key, "A")], left[(*key, "B")])]
 
-    def silent(self, heard: Heard, side: int) -> Iterator[Silence]:
+    def usual(self, heard: Heard) -> int:
+        """The usual gap of one, the lesser of both sides; 0 where there is none."""
+        times = (self.counting.listing.time[lines] for lines in heard.lines)
+        return min((gap for gap in map(usual_gap, times) if gap), default=0)
+
+    def silent(self, heard: Heard, side: int, usual: int) -> Iterator[Silence]:
         """The silences of one on a side. A network of which nothing came is silent, however short
         the run."""
         times = [self.counting.listing.time[lines] for lines in heard.lines]
-        usual = min((gap for gap in map(usual_gap, times) if gap), default=0)
         least = LEAST * max(heard.bag, usual)
         is_dead = heard.level == NETWORK and not len(times[side]) and len(times[1 - side])
+        if self.end - self.begin <= least and not is_dead:
+            return
         none = np.zeros(1, np.int64)
         edges = np.concatenate(([self.begin], times[side], [self.end]))
         lines = np.concatenate((none, heard.lines[side], none))
@@ -173,8 +180,8 @@ def groups_by(keys: np.ndarray, lines: np.ndarray) -> dict[int, np.ndarray]:
 def usual_gap(times: np.ndarray) -> int:
     """What nearly all gaps between these don't exceed: all but the longest twentieth of them, and
     all but the two longest; 0 where there is none."""
-    gaps = np.diff(times)
-    if not len(gaps):
+    if len(times) < 2:
         return 0
+    gaps = np.diff(times)
     rank = max(len(gaps) - 1 - max(len(gaps) // 20, 2), 0)
     return int(np.partition(gaps, rank)[rank])

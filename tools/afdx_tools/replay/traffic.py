@@ -41,8 +41,9 @@ class Traffic:
 
 def of_kinds(counting: Counting, words: tuple[str, ...]) -> np.ndarray:
     """The lines whose verdict is one of these words."""
-    codes = [counting.events.verdicts.names.index(word) for word in words]
-    return counting.arrived[np.isin(counting.events.verdict[counting.arrived], codes)]
+    names = counting.events.verdicts.names
+    is_one = np.array([name in words for name in names], bool)
+    return counting.arrived[is_one[counting.events.verdict[counting.arrived]]]
 
 
 def grouped(keys: np.ndarray) -> dict[int, np.ndarray]:

@@ -41,18 +41,22 @@ def words_of(counts: np.ndarray, names: Sequence[str], without: Sequence[str]) -
 
 
 def sums_row(counting: Counting, keys: np.ndarray, of_copies: np.ndarray, count: int) -> list[Row]:
-    """For each key the sums; `keys` has one for each line, `of_copies` one for each copy."""
+    """For each key the sums, of one without frames that alone; `keys` has one for each line,
+    `of_copies` one for each copy."""
     frames, came = counting.frames_by(keys, count), counting.came_by(keys, count)
     fates, ends = counting.fates_by(of_copies, count), counting.ends_by(of_copies, count)
     late, left = counting.late_by(of_copies, count), counting.ended_by(of_copies, count)
     verdicts, ended = counting.events.verdicts.names, counting.events.ends.names
-    rows = []
-    for key in range(count):
+    rows: list[Row] = []
+    for key, total in enumerate(frames.sum(axis=1).tolist()):
+        if not total:
+            rows.append({"frames": 0})
+            continue
         reasons = words_of(came[key], verdicts, [ACCEPT])
         refusals = words_of(ends[key], ended, [DELIVERED, REDUNDANT])
         rows.append(
             {
-                "frames": int(frames[key].sum()),
+                "frames": total,
                 "accepted": int(frames[key][verdicts.index(ACCEPT)]),
                 "dropped": sum(reasons.values()),
                 "reasons": reasons,
