@@ -1,5 +1,5 @@
 -- Of each stream at most two windows are held while a run goes on.
-use Rattle.std.proofs.Common.{◌≡◌, ℕ, ◌*◌, ◌≤◌, Bool, true, false, List, refl, sym, ◌∙◌, subst, arith}
+use Rattle.std.proofs.Common.{◌≡◌, ℕ, ◌*◌, ◌≤◌, Bool, List, refl, sym, subst, arith}
 use Rattle.std.proofs.lemmas.Bool.{ltb-false}
 use Rattle.std.specs.Prelude.{Option, Some, None}
 use Rattle.afdx_config.specs.Rows.{LinkRow, Rows}
@@ -9,10 +9,9 @@ use Rattle.afdx_input_runs.specs.Joining.{Frame}
 use Rattle.afdx_command_conform.specs.Choices.{Choices}
 use Rattle.afdx_command_conform.specs.Frames.{terms_at}
 use Rattle.afdx_command_conform.specs.Holding.{HoldsOneWindow, slot_held}
-use Rattle.afdx_command_conform.specs.Keeping.{AreKept, Given, IsNothingDue, IsStreamOf, given_of, slot_at}
+use Rattle.afdx_command_conform.specs.Keeping.{AreKept, Given, IsNothingDue, given_of, slot_at}
 use Rattle.afdx_command_conform.specs.Lines.{Due, of_key}
 use Rattle.afdx_command_conform.specs.Slots.{StreamStands}
-use Rattle.afdx_command_conform.specs.Standing.{StreamsStand}
 use Rattle.afdx_command_conform.specs.Told.{MayEnd, TellsAll}
 use Rattle.afdx_command_conform.specs.Waiting.{slot_due}
 use Rattle.afdx_command_conform.specs.declared.judging.JudgingRun.{JudgingRun}

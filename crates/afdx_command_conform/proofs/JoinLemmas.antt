@@ -4,7 +4,6 @@ use Rattle.std.proofs.lemmas.Bool.{and_parts, eq-eqb, ltb-false}
 use Rattle.std.proofs.lemmas.List.{length-map, length-reverse, map-append, take_more}
 use Rattle.std.specs.Prelude.{Option, Some, None, cond, filter, nat_eq, nat_le, not, option_and_then, slice_get, if◌then◌else◌}
 use Rattle.std.specs.List.{list_any, AllByRecursion}
-use Rattle.std.specs.Option.{option_map_or}
 use Rattle.afdx_law_bounds.specs.Tables.{port_of}
 use Rattle.afdx_config.specs.Lawful.{IsLawfulSwitch}
 use Rattle.afdx_config.specs.Reading.{link_of}
@@ -19,13 +18,13 @@ use Rattle.afdx_frame.specs.Sides.{is_side}
 use Rattle.afdx_police.specs.Arrival.{Arrival, names}
 use Rattle.afdx_input_lines.specs.declared.role.Role.TheVariants.{Came, Left}
 use Rattle.afdx_input_runs.specs.Joining.{Frame}
-use Rattle.afdx_command_conform.specs.Choices.{Choices, counted, counts, is_behind, is_before, is_in_time, is_left_out, is_passed}
+use Rattle.afdx_command_conform.specs.Choices.{Choices, counted, counts, is_behind, is_before, is_in_time, is_passed}
 use Rattle.afdx_command_conform.specs.Frames.{frame_with, gone_of, is_arrival_of, is_stranger, left_at, link_to, place_named}
 use Rattle.afdx_command_conform.specs.Keeping.{AreKept, Given, came_to, given_of, given_with, with_came, with_left, with_strange}
 use Rattle.afdx_command_conform.specs.Keys.{is_key, is_link, key_with}
 use Rattle.afdx_command_conform.specs.Lines.{Due, stranger_due}
 use Rattle.afdx_command_conform.specs.Slots.{AreFalling}
-use Rattle.afdx_command_conform.specs.Tapped.{is_heard, is_heard_at, is_judged, is_unheard, judged_to}
+use Rattle.afdx_command_conform.specs.Tapped.{is_heard, is_judged, judged_to}
 use Rattle.afdx_command_conform.specs.declared.kept.KeptByKey.{KeptByKey}
 use Rattle.afdx_command_conform.specs.declared.key.Key.{Key}
 use Rattle.afdx_command_conform.proofs.GivenLemmas.{all-filter, counted-more, falling-more, given-from, given_from, kept-same, linked, strange-times}

@@ -6,7 +6,7 @@ use Rattle.std.specs.Option.{option_or}
 use Rattle.std.specs.Prelude.{IfSome, Result, if◌then◌else◌, nat_lt, option_map}
 use Rattle.afdx_input_sources.specs.Causes.{Cause, cause_of, FailedRead, FailedWrite, NoMemory, BadInput}
 use Rattle.afdx_input_sources.specs.Engine.{Item}
-use Rattle.afdx_input_runs.specs.Arrivals.{By, ByCause}
+use Rattle.afdx_input_runs.specs.Arrivals.{ByCause}
 use Rattle.afdx_input_runs.specs.Joining.{Frame, frames_of}
 use Rattle.afdx_input_runs.specs.SeenFrames.{absent_in, absent_of, lost_of}
 use Rattle.afdx_input_runs.specs.declared.seen.Seen.{Seen}

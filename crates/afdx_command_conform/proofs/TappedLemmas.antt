@@ -1,17 +1,16 @@
 -- Which streams are judged.
-use Rattle.std.proofs.Common.{◌≡◌, ℕ, ◌+◌, ◌<◌, arith, inl, inr, ◌⊎◌, Bool, true, false, ◌&&◌, ◌||◌, List, [], ◌∷◌, ◌++◌, get_or, length, map, refl, take, sym, ap, ◌∙◌, subst, true≢false}
+use Rattle.std.proofs.Common.{◌≡◌, ℕ, ◌+◌, ◌<◌, arith, inl, inr, ◌⊎◌, Bool, true, false, ◌||◌, List, [], ◌∷◌, ◌++◌, get_or, length, map, refl, take, sym, ap, ◌∙◌, subst, true≢false}
 use Rattle.std.proofs.lemmas.Bool.{eqb-true}
 use Rattle.std.proofs.lemmas.List.{append-nil, take_more}
 use Rattle.std.proofs.lemmas.List.Elements.{filter-append}
 use Rattle.std.proofs.lemmas.Option.{get_or_from_slice_get, slice_get_within}
-use Rattle.std.specs.Prelude.{Option, Some, None, cond, filter, slice_get, nat_eq, not, option_and_then, if◌then◌else◌}
+use Rattle.std.specs.Prelude.{Option, Some, None, cond, filter, slice_get, nat_eq, option_and_then, if◌then◌else◌}
 use Rattle.std.specs.List.{list_any}
 use Rattle.afdx_law_bounds.specs.Tables.{port_of}
 use Rattle.afdx_config.specs.Rows.{LinkRow, Rows}
 use Rattle.afdx_frame.specs.declared.link.Side.{Side}
-use Rattle.afdx_input_runs.specs.Joining.{Frame}
 use Rattle.afdx_input_lines.specs.declared.role.Role.TheVariants.{Left}
-use Rattle.afdx_command_conform.specs.Tapped.{Taps, is_heard_at, is_judged, is_of_came, is_unheard, judged_to, link_to, place_named, unseen_among, unseen_to}
+use Rattle.afdx_command_conform.specs.Tapped.{Taps, is_judged, judged_to, link_to, unseen_among, unseen_to}
 
 module _ (t : Rows) (taps : Taps) (side : Side) (place port : ℕ) (l : LinkRow) where
   pub to-judged : link_to t place port ≡ Some l → is_judged t taps side l port ≡ true

@@ -83,11 +83,11 @@ pub fn run_judged<P, A: RunInput<P, Seen>, J: Judge, O: Sink>(
     ensures asked { A.IsAskedFew options inputs.old inputs.new }
 
     // Where the bytes are known: what is answered, and told, for the frames that it takes.
-    ensures answer { let start = O.written output.old in (rules : J.Rules) →
-        J.Told rules judge.old start start [] → CanAll (J.Can rules) →
+    ensures answer { let start = O.written output.old in (k : J.Rules) →
+        J.Told k judge.old start start [] → CanAll (J.Can k) →
         IfSome (A.known inputs.old) (λ bytes. RunTells
         (A.Takes TakesFrames options (ports_of_one terms.entry.tables.now) bytes inputs.new)
-        (J.Done rules judge.new) (J.Told rules judge.new) (J.Begins rules judge.new)
+        (J.Done k judge.new) (J.Told k judge.new) (J.Begins k judge.new)
         (J.HasCounted judge.new) terms.entry.is_lossy start (O.written output.new) result) }
 {
     let reading = Reading {

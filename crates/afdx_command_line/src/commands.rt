@@ -9,10 +9,11 @@ use crate::console::{
     read_config, take_places, tell_text, visible_text,
 };
 use crate::running::{Replaying, Run, run_inputs, run_sender};
+use crate::senders::judge_what_came;
 use afdx_command_tables::status::{DONE, WRONG_WORDS};
 use afdx_command_words::{
     PoliceOptions, afdx_command, conform_inputs, inputs_in, police_options, replay_options,
-    send_words, wants_lists,
+    send_words, wants_lists, wants_senders,
 };
 use afdx_explain::meaning_of;
 use afdx_replay::{CommandedRule, RunFault};
@@ -78,6 +79,9 @@ fn judge_switch(rt: &HostRuntime, matches: &ArgMatches<'_>) -> u8 {
         Ok(config) => config,
         Err(status) => return status,
     };
+    if wants_senders(matches) {
+        return ended(judge_what_came(rt, matches, config.as_slice(), inputs.came));
+    }
     ended(judge_inputs(rt, matches, config.as_slice(), inputs))
 }
 

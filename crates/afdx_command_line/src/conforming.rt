@@ -27,7 +27,10 @@ const ITS_END: &str = "\
 To end this run stop what writes its input, not afdx: the last line is the verdict.";
 
 /// What the words ask for, if their numbers are in range.
-fn choices_in<'a>(alloc: Global, matches: &ArgMatches<'a>) -> Result<Choices, Refused<'a>> {
+pub(crate) fn choices_in<'a>(
+    alloc: Global,
+    matches: &ArgMatches<'a>,
+) -> Result<Choices, Refused<'a>> {
     let said = conform_options(alloc, matches)?;
     let together = Leeway::new(said.slack, said.drift, said.inner, said.asked, said.from);
     let Some(leeway) = together.and_then(|leeway| leeway.apart(said.between)) else {
@@ -52,7 +55,7 @@ fn choices_of_two<'a>(
 }
 
 /// What words say, or the status where they are refused.
-fn taken<T>(
+pub(crate) fn taken<T>(
     rt: &HostRuntime,
     matches: &ArgMatches<'_>,
     said: Result<T, Refused<'_>>,
@@ -78,7 +81,7 @@ fn write_skipped<W: Write>(count: SeenCount, device: &mut W) -> io::Result<()> {
 /// Ends the command: hands over what its output still holds and, if that is asked for, how much of
 /// each recording was left out, explains its fault, and gives the exit status. `read` says why
 /// reading failed, if it did.
-fn end_judged<W: Write + Drop, E: Write + Drop>(
+pub(crate) fn end_judged<W: Write + Drop, E: Write + Drop>(
     rt: &HostRuntime,
     matches: &ArgMatches<'_>,
     judged: Judged,
@@ -141,7 +144,7 @@ fn judge_one(
 }
 
 /// The recording of this role is given, and no option says where its interfaces were.
-fn unsaid<'a>(role: Role) -> Refused<'a> {
+pub(crate) fn unsaid<'a>(role: Role) -> Refused<'a> {
     Refused::BadInterface(BadPlace::Absent(match role {
         Role::Came => "interface",
         Role::Left => "left",
@@ -149,7 +152,7 @@ fn unsaid<'a>(role: Role) -> Refused<'a> {
 }
 
 /// It ended by a fault before anything was judged, which is told.
-fn ended_by<E: Write>(fault: &RunFault, errors: &mut Watched<E>) -> Judged {
+pub(crate) fn ended_by<E: Write>(fault: &RunFault, errors: &mut Watched<E>) -> Judged {
     tell_fault(errors, fault);
     Judged {
         status: fault.status(),
@@ -158,7 +161,7 @@ fn ended_by<E: Write>(fault: &RunFault, errors: &mut Watched<E>) -> Judged {
 }
 
 /// Says on a terminal how the run ends, if it reads standard input.
-fn tell_its_end(rt: &HostRuntime, word: &str) {
+pub(crate) fn tell_its_end(rt: &HostRuntime, word: &str) {
     if word == STANDARD_INPUT && rt.stderr().is_terminal() {
         let _ = eprintln!(rt; "{ITS_END}");
     }

@@ -8,5 +8,6 @@ mod conforming;
 mod console;
 mod locating;
 mod running;
+mod senders;
 
 pub use commands::run_command_line;

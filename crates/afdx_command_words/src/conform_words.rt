@@ -4,7 +4,7 @@ ghost use Rattle.std.specs.List.{AllZip};
 ghost use Rattle.std.specs.Prelude.{IfOk, codes, map};
 ghost use Rattle.clap.specs.Words.{found_of};
 ghost use Rattle.afdx_command_words.specs.ConformSaid.{NamesLink, SaysConform};
-ghost use Rattle.afdx_command_words.specs.Said.{words_of};
+ghost use Rattle.afdx_command_words.specs.Said.{SaysFlag, SaysNumber, words_of};
 
 use crate::recording_words::Refused;
 use crate::said::{is_given, number_of};
@@ -70,11 +70,29 @@ CONFIG may describe several switches a side. --switch names the one that is judg
 CAME then has all that came to it, from its systems and by its cables, and each
 --interface says a port.
 
+With --senders and one input, CAME, the systems are judged as senders, and no switch:
+CAME is a list, or with one of the options above a recording of what they sent. A line
+is printed for each thing that a system did wrong; n is a line of CAME, port its own:
+
+  unlawful n side port WORD  frame n isn't lawful by itself; WORD says why
+  number n side port Q       it has another sequence number than Q, which stood next
+  soon n side port NS        it was sent NS ns too soon after those before it
+  differs n side port        it isn't the same as its copy on the other network
+  apart n side port NS       it was sent NS ns too late after that copy
+  single n side port         it has no copy there
+
+The last line then has behind 'idle I':
+
+  sent S     frames of systems without a line
+  cut C      of these, the ones whose copy may lie before the start or behind the end
+  alone G    links of which not both networks were recorded
+
 A closed pipe, as with '| head', is the fault 'device Write', status 4.
 
 Examples:
   afdx conform --slack 500 --drift 100 network.toml came.list left.list
-  afdx conform --interface 0=A:1 --left 1=A:3 network.toml bench.pcapng";
+  afdx conform --interface 0=A:1 --left 1=A:3 network.toml bench.pcapng
+  afdx conform --senders network.toml came.list";
 
 const CAME_HELP: &str = "\
 The path of a list or a recording (pcap) of the frames that came, or, without LEFT,
@@ -119,6 +137,12 @@ const EXERCISED_HELP: &str = "\
 Says 'undecided' if of a link at an output port that was recorded no
 frame is explained";
 
+const SENDERS_HELP: &str = "Judges the systems by what they sent, and no switch: CAME alone";
+
+const APART_HELP: &str = "\
+By how many ns later the copy of a frame may be sent on the other
+network, at most 100,000,000; else what the tables leave";
+
 const SWITCH_HELP: &str = "\
 The name of the switch that is judged, where CONFIG describes several
 a side";
@@ -149,6 +173,16 @@ fn leave_out_option<'a>(alloc: Global) -> Arg<'a> {
         .value_name("VL")
         .help(LEAVE_OUT_HELP)
         .action(ArgAction::Append)
+}
+
+/// The option by which senders are judged, and no switch.
+fn senders_option<'a>(alloc: Global) -> Result<Arg<'a>, AllocError> {
+    flag(alloc, "senders", SENDERS_HELP).conflicts_with_all(&["LEFT", "left", "switch"])
+}
+
+/// The option that says how far apart copies may be sent.
+fn apart_option<'a>(alloc: Global) -> Result<Arg<'a>, AllocError> {
+    time_option(alloc, "apart", APART_HELP).requires_arg("senders")
 }
 
 /// The option by which a switch of several is judged.
@@ -184,6 +218,8 @@ pub fn conform_command<'a>(alloc: Global) -> Result<Command<'a>, AllocError> {
         leave_out_option(alloc),
         flag(alloc, "exercised", EXERCISED_HELP),
         switch_option(alloc),
+        senders_option(alloc)?,
+        apart_option(alloc)?,
     ]?;
     let command = command(alloc, "conform", CONFORM_ABOUT, CONFORM_AFTER).args(words)?;
     let words = vec![in alloc;
@@ -278,4 +314,19 @@ pub fn conform_options<'a>(
         is_lossy: is_given(matches, "lossy"),
         is_exercised: is_given(matches, "exercised"),
     })
+}
+
+/// Whether senders are judged, and no switch.
+pub fn wants_senders(matches: &ArgMatches<'_>) -> bool
+    ensures { SaysFlag (found_of matches.now) (codes "senders") result }
+{
+    is_given(matches, "senders")
+}
+
+/// By how many ns later the copy of a frame may be sent on the other network, if that is said; the
+/// number as it was given.
+pub fn apart_in(matches: &ArgMatches<'_>) -> Option<u64>
+    ensures { SaysNumber (found_of matches.now) (codes "apart") result }
+{
+    number_of(matches, "apart")
 }

@@ -190,6 +190,25 @@ pub fn seen_options<'a>(
     options_of(interfaces, matches)
 }
 
+/// What the words say of one recording of what came alone, if they are taken. None: they say that
+/// it is a list.
+pub fn came_options<'a>(
+    alloc: Global,
+    matches: &ArgMatches<'a>,
+) -> Result<Option<RecordingOptions>, Refused<'a>>
+    ensures reading { IfOk result (λ said. IfSome said (SaysSeen (found_of matches.now))) }
+    ensures places { IfOk result (λ said. IfSome said (λ came. AreCame
+        (words_of (found_of matches.now) (codes "interface")) came.interfaces)) }
+{
+    if !are_recordings(matches) {
+        return Ok(None);
+    }
+    let mut came = Interfaces::new(alloc)?;
+    put_came(&mut came, matches)?;
+    let options = options_of(came, matches)?;
+    Ok(Some(options))
+}
+
 /// What the words say of two recordings, of what came and of what left, if they are taken. None:
 /// they say that both inputs are lists.
 pub fn seen_pair_options<'a>(

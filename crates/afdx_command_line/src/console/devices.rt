@@ -16,11 +16,12 @@ pub fn name_of_input(word: &str) -> &str {
     word
 }
 
-/// A file, or standard input. Each call is passed on as it is.
+/// A file, or standard input: each call is passed on as it is; or nothing, which is at its end.
 #[derive(Drop)]
 pub enum InputDevice {
     File(File),
     Standard(Stdin),
+    Nothing,
 }
 
 impl InputDevice {
@@ -38,6 +39,7 @@ impl Read for InputDevice {
         match self {
             InputDevice::File(file) => file.read(buf),
             InputDevice::Standard(stdin) => stdin.read(buf),
+            InputDevice::Nothing => Ok(0),
         }
     }
 }

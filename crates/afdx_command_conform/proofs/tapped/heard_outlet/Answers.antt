@@ -1,4 +1,4 @@
-use Rattle.std.proofs.Common.{◌≡◌, ℕ, Some, get_or, ap, sym, ◌∙◌}
+use Rattle.std.proofs.Common.{ℕ, Some, get_or, ap, sym, ◌∙◌}
 use Rattle.std.proofs.lemmas.Option.{slice_get-get_or}
 use Rattle.afdx_config.specs.Rows.{LinkRow}
 use Rattle.afdx_command_conform.specs.Tapped.{is_heard_at, link_to, taps_in}

@@ -1,0 +1,3 @@
+pub mod SettingLemmas
+pub mod SenderRunLemmas
+pub mod ConcludedLemmas

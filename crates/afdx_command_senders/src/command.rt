@@ -1,0 +1,68 @@
+//! The command `conform --senders`, of what came alone.
+
+ghost use Rattle.std.specs.Prelude.{◌≡◌, ◌||◌, ◌⊎◌, None, false, true};
+ghost use Rattle.afdx_command_conform.specs.Commands.{IsAnsweredOr, IsRun};
+ghost use Rattle.afdx_command_senders.specs.SenderAnswers.{SendersAnswer};
+ghost use Rattle.afdx_input_runs.specs.Arrivals.{TakesFrames};
+
+use crate::asked::SenderChoices;
+use crate::run::run_senders;
+use afdx_command_conform::{Judged, end_judged, ended_with, refuse_switch, tables_named};
+use afdx_command_tables::read_described;
+use afdx_input_lines::Watched;
+use afdx_input_runs::{RunInput, Seen, Tapping};
+use afdx_text::Sink;
+use std::alloc::Global;
+use std::io::Write;
+
+/// What is judged: the systems at the one switch of a configuration; and what is asked for.
+#[derive(Clone, Copy, Debug)]
+pub struct SenderQuestion<'a> {
+    pub config: &'a [u8],
+    pub asked: SenderChoices<'a>,
+}
+
+/// Judges whether the systems of a configuration sent as its tables say, by the frames that came to
+/// the switch: of a list or of one recording. The lines go to `output`, the one line of a fault to
+/// `errors`. Where the last line was written it also gives what was read.
+///
+/// Nothing of the inputs is read before the tables are taken. The exit status is 0 conforms, 5
+/// deviates, 3 undecided or a fault of a list or a recording, 1 a fault of the configuration, 2 if
+/// it describes several switches, or 4 a device or memory.
+pub fn judge_senders<P: Tapping + Drop, A: RunInput<P, Seen>, O: Sink, E: Write>(
+    alloc: Global,
+    what: SenderQuestion<'_>,
+    options: P,
+    inputs: &mut A,
+    output: &mut O,
+    errors: &mut Watched<E>,
+) -> Judged
+    requires new { A.IsNew inputs.old }
+    requires sound_output { O.failed output.old ≡ false }
+    ensures statuses { let status = result.status in
+        (status ≡ 0) ⊎ (status ≡ 1) ⊎ (status ≡ 2) ⊎ (status ≡ 3) ⊎ (status ≡ 4)
+        ⊎ (status ≡ 5) }
+    ensures device { (A.failed inputs.new || O.failed output.new) ≡ true → result.status ≡ 4 }
+    ensures asked { A.IsAskedFew options inputs.old inputs.new }
+
+    // The command ends as a run by the tables of the switch answered; or the configuration isn't
+    // read, or describes several: then nothing is read and nothing is written.
+    ensures judges { IsAnsweredOr E.contents what.entry.config.now None errors.old errors.new
+        result (λ t answer.
+        IsRun (A.ended inputs.new) (A.failed inputs.new) (O.failed output.new) answer
+        × SendersAnswer (A.known inputs.old) (A.Takes TakesFrames options) inputs.new t
+        (P.tapped options) what.entry.asked (O.written output.old) (O.written output.new) answer)
+        ((inputs.new ≡ inputs.old) × (output.new ≡ output.old)) }
+{
+    // (a law of the inputs: before they are asked for anything they haven't failed)
+    A::starts();
+    let described = match read_described(alloc, what.config, errors) {
+        Ok(described) => described,
+        Err(status) => return ended_with(status),
+    };
+    let Some(tables) = tables_named(described, None) else {
+        return ended_with(refuse_switch(errors));
+    };
+    let answer = run_senders(alloc, &tables, what.asked, options, inputs, output);
+    end_judged(answer, errors)
+}
