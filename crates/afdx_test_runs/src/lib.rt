@@ -13,6 +13,8 @@ mod replay;
 #[cfg(test)]
 mod send;
 #[cfg(test)]
+mod sending;
+#[cfg(test)]
 mod surface;
 #[cfg(test)]
 mod switch;

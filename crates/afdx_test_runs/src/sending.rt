@@ -1,0 +1,55 @@
+//! Whether the systems at a recorded switch sent as its tables say: the command over a list. Each
+//! answer is tried at the program (tests/run/conformance.py).
+
+use crate::texts::short_text;
+use afdx_command_conform::{AsLists, ByRole, Choices, Leeway};
+use afdx_command_senders::{SenderChoices, SenderQuestion, judge_senders};
+use afdx_input_lines::Watched;
+use afdx_test_samples::{ShortText, base, equal, spelled};
+use afdx_text::Output;
+use std::alloc::Global;
+use std::test::Fail;
+
+/// The status, and what is written, of the base tables and this list.
+fn judged(alloc: Global, came: &str) -> Result<(u8, ShortText), Fail> {
+    let leeway = Leeway::new(0, 0, 0, 0, None).ok_or("a leeway")?;
+    let choices = Choices::new(leeway, None, Vec::new(alloc), false, false).ok_or("choices")?;
+    let what = SenderQuestion {
+        config: base().as_bytes(),
+        asked: SenderChoices::new(&choices, None).ok_or("a distance")?,
+    };
+    let came = spelled(alloc, came)?;
+    let mut inputs = ByRole {
+        came: Watched::new(came.as_bytes()),
+        left: Watched::new("".as_bytes()),
+    };
+    let mut output = Output::new(alloc, 0, Vec::new(alloc))?;
+    let mut errors = Watched::new(Vec::new(alloc));
+    let (ins, outs, faults) = (&mut inputs, &mut output, &mut errors);
+    let judged = judge_senders(alloc, what, AsLists, ins, outs, faults);
+    let text = short_text(output.into_device().as_slice())?;
+    Ok((judged.status, text))
+}
+
+#[test]
+fn recorded_senders_are_judged(rt: HostRuntime) -> Result<(), Fail> {
+    let (status, text) = judged(rt.alloc(), "F 0 A 1 H1\n")?;
+    let wanted = "conforms explained 0 open 0 uncertain 0 left-out 0 unseen 4 idle 0 \
+                  sent 1 cut 1 alone 0\n";
+    equal((status, text.as_str()), (0, wanted))?;
+    let (status, text) = judged(rt.alloc(), "F 0 B 1 H1\n")?;
+    let wanted = "unlawful 1 B 1 not-its-address\n\
+                  deviates 1 explained 0 open 0 uncertain 0 left-out 0 unseen 4 idle 0 \
+                  sent 0 cut 1 alone 0\n";
+    equal((status, text.as_str()), (5, wanted))
+}
+
+#[test]
+fn a_distance_has_a_greatest(rt: HostRuntime) -> Result<(), Fail> {
+    let leeway = Leeway::new(0, 0, 0, 0, None).ok_or("a leeway")?;
+    let choices = Choices::new(leeway, None, Vec::new(rt.alloc()), false, false);
+    let choices = choices.ok_or("choices")?;
+    let most = SenderChoices::new(&choices, Some(100_000_000)).is_some();
+    let more = SenderChoices::new(&choices, Some(100_000_001)).is_some();
+    equal((most, more), (true, false))
+}
