@@ -8,7 +8,7 @@ use crate::console::{
 use crate::running::{cause_in, open, output_room, refuse};
 use afdx_command_conform::{ByRole, Choices};
 use afdx_command_senders::{SenderChoices, SenderQuestion, judge_senders};
-use afdx_command_words::{Refused, apart_in, came_options};
+use afdx_command_words::{Refused, came_options, copies_apart};
 use afdx_input_runs::AsLists;
 use afdx_input_sources::RecordingOptions;
 use afdx_replay::{Output, Peeked, Watched};
@@ -21,7 +21,7 @@ fn question<'a>(
     config: &'a [u8],
     choices: &'a Choices,
 ) -> Result<SenderQuestion<'a>, u8> {
-    match SenderChoices::new(choices, apart_in(matches)) {
+    match SenderChoices::new(choices, copies_apart(matches)) {
         Some(asked) => Ok(SenderQuestion { config, asked }),
         None => Err(refuse(rt, matches, Refused::BadNumber)),
     }

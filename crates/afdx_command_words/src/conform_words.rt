@@ -177,11 +177,14 @@ fn leave_out_option<'a>(alloc: Global) -> Arg<'a> {
 
 /// The option by which senders are judged, and no switch.
 fn senders_option<'a>(alloc: Global) -> Result<Arg<'a>, AllocError> {
-    flag(alloc, "senders", SENDERS_HELP).conflicts_with_all(&["LEFT", "left", "switch"])
+    flag(alloc, "senders", SENDERS_HELP)
+        .conflicts_with("LEFT")?
+        .conflicts_with("left")?
+        .conflicts_with("switch")
 }
 
 /// The option that says how far apart copies may be sent.
-fn apart_option<'a>(alloc: Global) -> Result<Arg<'a>, AllocError> {
+fn copies_apart_option<'a>(alloc: Global) -> Result<Arg<'a>, AllocError> {
     time_option(alloc, "apart", APART_HELP).requires_arg("senders")
 }
 
@@ -219,7 +222,7 @@ pub fn conform_command<'a>(alloc: Global) -> Result<Command<'a>, AllocError> {
         flag(alloc, "exercised", EXERCISED_HELP),
         switch_option(alloc),
         senders_option(alloc)?,
-        apart_option(alloc)?,
+        copies_apart_option(alloc)?,
     ]?;
     let command = command(alloc, "conform", CONFORM_ABOUT, CONFORM_AFTER).args(words)?;
     let words = vec![in alloc;
@@ -325,7 +328,7 @@ pub fn wants_senders(matches: &ArgMatches<'_>) -> bool
 
 /// By how many ns later the copy of a frame may be sent on the other network, if that is said; the
 /// number as it was given.
-pub fn apart_in(matches: &ArgMatches<'_>) -> Option<u64>
+pub fn copies_apart(matches: &ArgMatches<'_>) -> Option<u64>
     ensures { SaysNumber (found_of matches.now) (codes "apart") result }
 {
     number_of(matches, "apart")
