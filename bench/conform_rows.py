@@ -2,12 +2,13 @@
 import os
 import subprocess
 
-from make_two_lists import LINKS, place_words, write_recordings, write_two_lists
+from make_two_lists import LINKS, place_words, write_recordings, write_sent, write_two_lists
 from table import show
 
 FEW = 20_000  # frames that don't count: what is held of a recording, and more
 LISTS, ONE, TWO = "lists", "one recording", "two recordings"
 AS_READ = ["--reorder=0"]
+SENDERS = "conform --senders, 400 links"
 POLICED = "what `replay` takes to read, check and police two frames"
 CONFORM = [  # the ports of a link, what is read, and options
     ("conform, 400 links to one port each", 1, LISTS, []),
@@ -72,6 +73,23 @@ def policed(bench):
     return taken[1] - (taken[4] - taken[1]) / 3
 
 
+def show_senders(bench, lines, empty):
+    """The row of senders; the line of what a frame takes."""
+    config, path = bench.path("judged.toml"), bench.path("long.list")
+
+    def make(to, count):
+        write_sent(config, to, count)
+
+    make(path, lines)
+    words = [bench.program, "conform", "--senders", config]
+    measured = bench.rows([(SENDERS, words)], lines, make, FEW, 0)[0]
+    bench.show(measured, *empty)
+    if measured.instructions is None:
+        return []
+    times = measured.instructions / policed(bench)
+    return [f"{SENDERS}: {times:.2f} times what `replay` takes to read, check and police a frame"]
+
+
 def show_conform(bench, only, lines, empty):
     """The rows with this text in their names; the lines of what a frame takes, which are printed
     last."""
@@ -89,6 +107,8 @@ def show_conform(bench, only, lines, empty):
         judged = judged or policed(bench)
         times = measured.instructions / ports / (2 * judged)
         told.append(f"{name}: at each port {times:.2f} times {POLICED}")
+    if only in SENDERS and told_by(bench.program, "--senders"):
+        told += show_senders(bench, lines, empty)
     return told
 
 

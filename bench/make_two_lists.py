@@ -92,6 +92,25 @@ def write_two_lists(config, came_path, left_path, count, ports=1, links=LINKS):
                 (left if has_left else coming).write(f"F {time} {side} {port} {digits}\n")
 
 
+def write_sent(config, path, count, links=LINKS):
+    """A list of so many frames that right systems sent, each message on both sides at one time; and
+    its configuration."""
+    write_config(config, links, 1)
+    chance, step = random.Random(links), BAG_MS * MS // links
+    heads = [
+        [frame_of(vl % SYSTEMS + 1, 1, vl, bytes(17), 0, side, 1000)[:42] for side in "AB"]
+        for vl in range(links)
+    ]
+    message = b""
+    with open(path, "w", encoding="ascii") as coming:
+        for place in range(count):
+            (turn, vl), on_b = divmod(place // 2, links), place % 2
+            message = message if on_b else chance.randbytes(17)
+            tail = message + bytes([(turn - 1) % 255 + 1 if turn else 0])
+            frame = (heads[vl][on_b] + tail).hex()
+            coming.write(f"F {place // 2 * step} {'AB'[on_b]} {vl % SYSTEMS + 1} {frame}\n")
+
+
 def place_words(is_one):
     """The words that say where the interfaces of recordings were, of one or of two."""
     words = []

@@ -259,6 +259,7 @@ end
 local comments_of = Field.new("frame.comment")
 local JUDGED = {}
 for word in ("stopped passed late early strange unsure"):gmatch("%a+") do JUDGED[word] = true end
+for word in ("unlawful number soon differs apart single"):gmatch("%a+") do JUDGED[word] = true end
 
 -- A comment: the program's lines about the frame (V, L, T, X), `latency NS of NS ns at PLACE` of
 -- each copy, what `conform` said, what the link is called.

@@ -152,6 +152,14 @@ def strange(rows: list[Row]) -> str:
         [f"`{row.word}`", meaning(row, "the frame ")] for row in of_kind(rows, "strange")))
 
 
+def unlawful(rows: list[Row]) -> str:
+    """Why a frame that a system sent is unlawful, but for what stands against arrivals, too."""
+    drops = {row.word for row in of_kind(rows, "drop")}
+    return table("| WORD of unlawful | The frame |", (
+        [f"`{row.word}`", meaning(row, "the frame ")] for row in of_kind(rows, "unlawful")
+        if row.word not in drops))
+
+
 def refused(rows: list[Row]) -> str:
     """Why a message is refused."""
     return table("| Text | When |", (
@@ -231,6 +239,9 @@ TABLES: dict[str, Tables] = {
             rows, "strange ", "passed ", "stopped ", "late ", "early n side", "unsure ",
             "conforms: ", "deviates ", "undecided: "),
         "why a frame is strange": strange,
+        "lines of senders": lambda rows: lines(
+            rows, "unlawful ", "number ", "soon ", "differs ", "apart n side", "single "),
+        "why a frame is unlawful": unlawful,
     },
     "docs/RECORDINGS.md": {
         "skipped numbers": skipped_numbers,

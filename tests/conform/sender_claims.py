@@ -16,6 +16,7 @@ from senders import conform_senders
 BASE = CONFIGS["base"]
 PORTS = (1, 1, 1, 1, 2, 3, 5)  # where a frame comes in that is moved
 OUTPUT, WIRE = 3, 6_720  # where the frames of link 1 leave, and how long that takes
+ALONE = "and no switch: CAME alone"  # of a program's help, where it judges no streams beside
 NOTHING = " explained 0 open 0 uncertain 0 left-out 0 unseen 4 idle 0 "
 # of each option that is given, by its word
 VALUES = {"--slack": "slack", "--drift": "drift", "--apart": "apart", "--from": "start",
@@ -128,13 +129,14 @@ def left_of(came: bytes) -> bytes:
 
 
 def senders_alike(judge: Judge, seed: int, count: int) -> None:
-    """It answers what is computed here, of senders alone and beside streams."""
-    found = set()
+    """It answers what is computed here, of senders alone and, if it judges them so, beside
+    streams."""
+    found, is_alone = set(), judge.program is not None and judge.program.knows("conform", ALONE)
     for case in range(count):
         chance = random.Random(f"{seed} {case} senders")
         made = right(chance)
         came, words = changed(chance, made), words_of(made.options)
-        left = left_of(came) if chance.random() < 0.3 else None
+        left = left_of(came) if chance.random() < 0.3 and not is_alone else None
         words += ("--leave-out", "2") if chance.random() < 0.1 else ()
         wanted = conform_senders(BASE, came, left, words)
         found |= {line.split()[0] for line in wanted.out.decode().splitlines()}

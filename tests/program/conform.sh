@@ -153,6 +153,24 @@ for word in --slack=x --between=2. --drift=-1 --inner= --asked=1e3 --from=0x1 \
     --until=99999999999999999999999 --jitter=1; do
     text_case "conform $word" 2 err "${word%%=*}" conform "$word" "$rules" "${lists[@]}"
 done
+for word in --senders --apart 'afdx conform --senders' unlawful number soon differs apart single \
+    'sent S' 'cut C' 'alone G'; do
+    text_case "help of conform tells of $word" 0 out "$word" conform --help
+done
+text_case 'conform --senders with LEFT' 2 err '[LEFT]' conform --senders "$rules" "${lists[@]}"
+text_case 'conform --senders --left' 2 err --left \
+    conform --senders --left 0=A:3 "$rules" "$work/came"
+text_case 'conform --senders --switch' 2 err --switch \
+    conform --senders --switch fwd "$two" "$work/came"
+text_case 'conform --apart alone' 2 err --senders conform --apart 5 "$rules" "$work/came"
+text_case 'conform --apart beside LEFT' 2 err --apart conform --apart 5 "$rules" "${lists[@]}"
+case_of 'conform --senders of several switches' 2 '' $'words NoSuchSwitch\n' \
+    conform --senders "$two" "$work/came"
+case_of 'conform --senders --apart, too great' 2 '' $'words BadNumber\n' \
+    conform --senders --apart 100000001 "$rules" "$work/came"
+case_of 'conform --senders of nothing' 3 \
+    $'undecided explained 0 open 0 uncertain 0 left-out 0 unseen 4 idle 0 sent 0 cut 0 alone 0\n' \
+    '' conform --senders "$rules" /dev/null
 case_of 'an argument of conform that is no text' 2 '' $'words NotText\n' \
     conform "$rules" "$work/came" $'\xff'
 

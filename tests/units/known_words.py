@@ -15,6 +15,12 @@ LINES = (
     "late n side port NS: frame n of CAME left that output port NS ns later than it may.",
     "early n side port NS: frame n of CAME left that output port NS ns before it can have gone.",
     "unsure n side port: from the arrival of frame n of CAME on nothing is said of its link.",
+    "unlawful n side port WORD: the system at that port sent frame n of CAME, which isn't lawful.",
+    "number n side port Q: the system at that port sent frame n of CAME with another number.",
+    "soon n side port NS: the system at that port sent frame n of CAME NS ns too soon.",
+    "differs n side port: the system at that port sent frame n of CAME, which isn't its copy.",
+    "apart n side port NS: the system at that port sent frame n of CAME NS ns later than it may.",
+    "single n side port: the system at that port sent frame n of CAME, and no copy of it came.",
 )
 LISTED = "\n".join(
     [f"drop {word}\n{word}: why.\n" for word in DROPS]

@@ -16,7 +16,9 @@ class Listed(unittest.TestCase):
     def setUp(self) -> None:
         known.drops.cache_clear()
         known.kinds.cache_clear()
+        known.of_senders.cache_clear()
         self.addCleanup(known.drops.cache_clear)
+        self.addCleanup(known.of_senders.cache_clear)
         self.addCleanup(known.kinds.cache_clear)
 
     def test_verdicts_in_the_order_of_the_program(self) -> None:
@@ -32,6 +34,10 @@ class Listed(unittest.TestCase):
             ("unsure", Kind(is_left=False, is_timed=False, is_finding=False)),
         ])  # fmt: skip
         self.assertEqual(known.findings(), ("stopped", "strange", "passed", "late", "early"))
+
+    def test_lines_about_what_systems_sent(self) -> None:
+        words = ("unlawful", "number", "soon", "differs", "apart", "single")
+        self.assertEqual(known.of_senders(), words)
 
     def test_a_finding_that_has_no_column_comes_last(self) -> None:
         new = "line bent\nbent n side port: frame n of CAME left bent.\n"

@@ -15,6 +15,11 @@ KIND = re.compile(
     r"^(?P<word>[a-z]+) (?P<n>[nm]) side port(?: (?P<more>WORD|NS))?: "
     r"(?P<from>from the arrival of )?frame (?P=n) of (?P<list>CAME|LEFT)\b", re.M,
 )  # fmt: skip
+# and that of a line about a frame that a system sent
+SENT = re.compile(
+    r"^(?P<word>[a-z]+) n side port(?: (?:WORD|NS|Q))?: the system at that port sent frame n\b",
+    re.M,
+)  # fmt: skip
 
 
 class Kind(NamedTuple):
@@ -59,6 +64,12 @@ def kinds() -> dict[str, Kind]:
         raise Failed(f"{program()} lists no lines of conform (explain --list)", 4)
     columns = COLUMNS["streams"].split()
     return {word: found[word] for word in sorted(found, key=lambda each: place_in(columns, each))}
+
+
+@functools.cache
+def of_senders() -> tuple[str, ...]:
+    """The words of lines of `conform` about frames that systems sent."""
+    return tuple(each["word"] for each in SENT.finditer(listed()))
 
 
 def counts_of(words: Sequence[str]) -> dict[str, int]:

@@ -7,7 +7,7 @@ from typing import Iterator, Mapping
 
 from afdx_tools.config import MOST_PORTS, Config, port_at
 from afdx_tools.faults import Refused, shown
-from afdx_tools.known import kinds
+from afdx_tools.known import kinds, of_senders
 from afdx_tools.naming import Naming, naming_beside
 
 MOST_LINES = 1_000_000
@@ -36,7 +36,7 @@ def judged_in(path: str, is_one: bool) -> dict[int, list[str]]:
         for place, line in enumerate(iter(lambda: file.readline(LONGEST_LINE), ""), 1):
             word, *others = line.split()[:3] or [""]
             kind = kinds().get(word)
-            if kind is None or (kind.is_left and not is_one):
+            if word not in of_senders() and (kind is None or (kind.is_left and not is_one)):
                 continue
             if place > MOST_LINES or not others or not others[0].isdecimal():
                 raise Refused(f"{shown(path)} line {place}: it is no line of afdx conform")
