@@ -70,12 +70,12 @@ CONFIG may describe several switches a side. --switch names the one that is judg
 CAME then has all that came to it, from its systems and by its cables, and each
 --interface says a port.
 
-With --senders and one input, CAME, the systems are judged as senders, and no switch:
-CAME is a list, or with one of the options above a recording of what they sent. A line
-is printed for each thing that a system did wrong; n is a line of CAME, port its own:
+With --senders the systems are judged as senders, and no switch. CAME alone is
+given: a list, or with one of the options above a recording of what they sent. A
+line is printed for each thing that a system did wrong; n is a line of CAME:
 
   unlawful n side port WORD  frame n isn't lawful by itself; WORD says why
-  number n side port Q       it has another sequence number than Q, which stood next
+  number n side port Q       its sequence number isn't Q, which stood next
   soon n side port NS        it was sent NS ns too soon after those before it
   differs n side port        it isn't the same as its copy on the other network
   apart n side port NS       it was sent NS ns too late after that copy
@@ -83,8 +83,8 @@ is printed for each thing that a system did wrong; n is a line of CAME, port its
 
 The last line then has behind 'idle I':
 
-  sent S     frames of systems without a line
-  cut C      of these, the ones whose copy may lie before the start or behind the end
+  sent S     frames of systems of which no line is printed
+  cut C      frames whose copy may lie before the start or behind the end
   alone G    links of which not both networks were recorded
 
 A closed pipe, as with '| head', is the fault 'device Write', status 4.
@@ -137,11 +137,11 @@ const EXERCISED_HELP: &str = "\
 Says 'undecided' if of a link at an output port that was recorded no
 frame is explained";
 
-const SENDERS_HELP: &str = "Judges the systems by what they sent, and no switch: CAME alone";
+const SENDERS_HELP: &str = "Judges the systems by what they sent: CAME alone";
 
 const APART_HELP: &str = "\
-By how many ns later the copy of a frame may be sent on the other
-network, at most 100,000,000; else what the tables leave";
+By how many ns later the copy of a frame may be sent, at most
+100,000,000; else what the tables leave";
 
 const SWITCH_HELP: &str = "\
 The name of the switch that is judged, where CONFIG describes several
@@ -185,7 +185,11 @@ fn senders_option<'a>(alloc: Global) -> Result<Arg<'a>, AllocError> {
 
 /// The option that says how far apart copies may be sent.
 fn copies_apart_option<'a>(alloc: Global) -> Result<Arg<'a>, AllocError> {
-    time_option(alloc, "apart", APART_HELP).requires_arg("senders")
+    time_option(alloc, "apart", APART_HELP)
+        .requires_arg("senders")?
+        .conflicts_with("LEFT")?
+        .conflicts_with("left")?
+        .conflicts_with("switch")
 }
 
 /// The option by which a switch of several is judged.
