@@ -172,10 +172,10 @@ _afdx_takes() { # COMMAND : its options, and those that take a value
             ;;
         'afdx conform')
             options=(--slack --between --drift --inner --asked --from --until --leave-out \
-                --exercised --switch --interface --left --fcs --reorder --stamps --lossy \
-                --explain --line-buffered --progress --summary --help)
+                --exercised --switch --senders --apart --interface --left --fcs --reorder \
+                --stamps --lossy --explain --line-buffered --progress --summary --help)
             valued=(--slack --between --drift --inner --asked --from --until --leave-out --switch \
-                --interface --left --fcs --reorder --stamps)
+                --apart --interface --left --fcs --reorder --stamps)
             ;;
         'afdx explain')
             options=(--list --help)

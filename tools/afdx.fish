@@ -59,8 +59,8 @@ end
 
 # printed by bin/pages
 set -g __afdx_valued --slack --between --drift --inner --asked --from --until --leave-out --switch \
-    --interface --left --fcs --reorder --stamps --origin --vl --port --lmin --policing --keep \
-    --apart --out -j --jobs -S --sshlogin --taps --fail-on --junit --config -o --split --side \
+    --apart --interface --left --fcs --reorder --stamps --origin --vl --port --lmin --policing \
+    --keep --out -j --jobs -S --sshlogin --taps --fail-on --junit --config -o --split --side \
     --conform --cables --profile --reserve --since --link --rows --worst --compare --title --cover \
     --seconds --seed
 
@@ -93,6 +93,9 @@ complete -c afdx -n '__afdx_in conform' -x -l leave-out -d 'The link'
 complete -c afdx -n '__afdx_in conform' -l exercised \
     -d 'Says \'undecided\' if of a link at an output port that was recorded no frame is explained'
 complete -c afdx -n '__afdx_in conform' -x -l switch -d 'The name of the switch that is judged'
+complete -c afdx -n '__afdx_in conform' -l senders -d 'Judges the systems by what they sent'
+complete -c afdx -n '__afdx_in conform' -x -l apart \
+    -d 'By how many ns later the copy of a frame may be sent on the other network'
 complete -c afdx -n '__afdx_in conform' -x -l interface \
     -d 'Where the frames of interface K came in'
 complete -c afdx -n '__afdx_in conform' -x -l left -d 'Where the frames of interface K left'
