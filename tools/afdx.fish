@@ -95,7 +95,7 @@ complete -c afdx -n '__afdx_in conform' -l exercised \
 complete -c afdx -n '__afdx_in conform' -x -l switch -d 'The name of the switch that is judged'
 complete -c afdx -n '__afdx_in conform' -l senders -d 'Judges the systems by what they sent'
 complete -c afdx -n '__afdx_in conform' -x -l apart \
-    -d 'By how many ns later the copy of a frame may be sent on the other network'
+    -d 'By how many ns later the copy of a frame may be sent'
 complete -c afdx -n '__afdx_in conform' -x -l interface \
     -d 'Where the frames of interface K came in'
 complete -c afdx -n '__afdx_in conform' -x -l left -d 'Where the frames of interface K left'

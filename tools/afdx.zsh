@@ -56,7 +56,7 @@ _afdx_takes() { # COMMAND
             '--exercised[Says '\''undecided'\'' if of a link at an output port that was recorded no frame is explained]' \
             '--switch=[The name of the switch that is judged]:name:' \
             '--senders[Judges the systems by what they sent]' \
-            '--apart=[By how many ns later the copy of a frame may be sent on the other network]:ns:' \
+            '--apart=[By how many ns later the copy of a frame may be sent]:ns:' \
             '*--interface=[Where the frames of interface K came in]:k=place:' \
             '*--left=[Where the frames of interface K left]:k=place:' \
             '--fcs=[Whether each recorded frame ends with its check sequence]: :(yes no)' \
