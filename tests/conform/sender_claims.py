@@ -16,7 +16,7 @@ from senders import conform_senders
 BASE = CONFIGS["base"]
 PORTS = (1, 1, 1, 1, 2, 3, 5)  # where a frame comes in that is moved
 OUTPUT, WIRE = 3, 6_720  # where the frames of link 1 leave, and how long that takes
-ALONE = "and no switch: CAME alone"  # of a program's help, where it judges no streams beside
+ALONE = "what they sent: CAME alone"  # of a program's help, where it judges no streams beside
 NOTHING = " explained 0 open 0 uncertain 0 left-out 0 unseen 4 idle 0 "
 # of each option that is given, by its word
 VALUES = {"--slack": "slack", "--drift": "drift", "--apart": "apart", "--from": "start",
