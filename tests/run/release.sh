@@ -21,7 +21,8 @@ mkdir -p "$room/kit" "$house"
 cat >"$room/kit/rt" <<'RT'
 #!/usr/bin/env bash
 case $1 in
-    version) echo 'a kit of its own'; exit ;;
+    version) cat "$KIT"; exit ;;
+    help) [[ -e $OLDER ]] || echo 'rt ci --anew'; exit ;;
     ci) { echo "$*"; ls crates; find . -name '*.edit'; } >"$CALLS"; cd crates/afdx || exit ;;
 esac
 [[ ! -e $BROKEN ]] || { echo 'one goal is open'; exit 1; }
@@ -34,7 +35,8 @@ mkdir -p out
 chmod +x out/afdx
 RT
 chmod +x "$room/kit/rt"
-export CALLS=$room/calls BROKEN=$room/broken EDITED=$room/edited LUCK=$room/luck HOUSE=$house
+echo 'a kit of its own' >"$room/identity"
+export KIT=$room/identity OLDER=$room/older CALLS=$room/calls BROKEN=$room/broken EDITED=$room/edited LUCK=$room/luck HOUSE=$house
 export PATH=$room/kit:$PATH GIT_CONFIG_GLOBAL=/dev/null GIT_AUTHOR_NAME=a GIT_AUTHOR_EMAIL=a@b \
     GIT_COMMITTER_NAME=a GIT_COMMITTER_EMAIL=a@b
 export XDG_CACHE_HOME=$room/cache
@@ -107,6 +109,10 @@ expect 'prove says so, with both sums' grep -qE '^same [0-9a-f]{64} [0-9a-f]{64}
 expect 'it proves what the program stands on, with no wrong bodies' \
     cmp -s "$CALLS" <(printf 'ci --anew\nafdx\nlow\n')
 expect 'its program is the one that is run' test -x "$house/crates/afdx/out/afdx"
+touch "$OLDER"
+call prove
+expect 'a kit without that word proves from nothing as it is' grep -qx ci "$CALLS"
+rm "$OLDER"
 call prove --jobs 0
 expect 'no jobs are no number' [ "$status" = 2 ]
 touch "$BROKEN"
@@ -137,6 +143,10 @@ call release
 expect 'the release is written anew' ends 0 'wrote'
 call release --check
 expect 'and is right again' ends 0 ''
+echo 'another kit' >"$KIT"
+call release --check
+expect 'one of another kit is stale, and not wrong' ends 3 'of another kit, a kit of its own'
+echo 'a kit of its own' >"$KIT"
 mv "$house/crates/afdx/out" "$room/built"
 call release --check
 expect 'so it is where no program is built' ends 0 ''
