@@ -115,6 +115,7 @@ fn fields_from<'a>(
 
 /// The fields of a text. The last one is all that stands behind the fourth space: it isn't searched
 /// for a further one.
+#[inline(always)]
 fn read_fields(text: &[u8]) -> Option<Fields<'_>>
     ensures { if_no_more frame_form (option_map frame_fields_of result)
         ≡ option_map cut_frame (frame_fields text.now) }
@@ -183,6 +184,7 @@ pub(crate) fn seal_of(kind: FrameKind, frame: &mut Vec<u8>) -> Seal
 /// The line stands without its line feed. An error is the first check of the line that is false, or
 /// want of memory: where `frame` can't grow, and no check is false before that of the digits.
 /// After an error, and after a line that is skipped, `frame` holds any bytes.
+#[inline(always)]
 pub fn read_frame_line(
     line: &[u8],
     latest: u64,

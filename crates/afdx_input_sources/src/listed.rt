@@ -66,6 +66,7 @@ impl LineForm<Heading> for FrameLines {
 
     ghost times = { λ form n heading bytes. refl };
 
+    #[inline(always)]
     fn read_line(
         &self,
         line: &[u8],
