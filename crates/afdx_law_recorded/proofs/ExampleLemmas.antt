@@ -1,0 +1,112 @@
+-- The example meets what is asked.
+use Rattle.std.proofs.Common.{◌≡◌, ℕ, ◌+◌, ◌*◌, ◌-◌, ◌≤◌, [], refl, arith}
+use Rattle.afdx_config.specs.Numbers.{after_steps}
+use Rattle.afdx_frame.specs.Carried.{carried_by, carried_in_body}
+use Rattle.afdx_frame.specs.Datagrams.{words, ones_sum}
+use Rattle.afdx_frame.specs.Parts.{frame_of}
+use Rattle.afdx_frame.specs.Register.{shift, number}
+use Rattle.afdx_frame.specs.Sealing.{is_sealed, sequence_of}
+use Rattle.afdx_frame.specs.declared.link.Side.{Side}
+use Rattle.afdx_frame.specs.declared.link.Side.TheVariants.{A, B}
+use Rattle.afdx_police.specs.Arrival.{names}
+use Rattle.afdx_police.specs.Shape.{fault_of}
+use Rattle.afdx_receive.specs.Steps.{is_within_steps}
+use Rattle.afdx_conform.specs.Events.{events_of, up_to}
+use Rattle.afdx_conform.specs.Findings.{are_same, does_more, one_more, thinned_onto, front_rest, first_named}
+use Rattle.afdx_conform.specs.Findings.{once_named, strangeness, unexplained, skipped, closed_to, deviates}
+use Rattle.afdx_conform.specs.Findings.{came_to, sound_events, judged_after}
+use Rattle.afdx_conform.specs.Headline.{GoByTime}
+use Rattle.afdx_conform.specs.Histories.{least_from}
+use Rattle.afdx_conform.specs.States.{led_by, kept, are_behind, first_states, states_at}
+use Rattle.afdx_conform.specs.Streams.{fits, is_open, is_begun}
+use Rattle.afdx_lawful.specs.Alone.{number_in, times_with_room, found_alone}
+use Rattle.afdx_lawful.specs.Flaws.{flaw_of, is_whole, is_copy}
+use Rattle.afdx_lawful.specs.Judged.{found_of, found_coming, found_single}
+use Rattle.afdx_lawful.specs.Partners.{without_first, may_pair, waiting, is_cut}
+use Rattle.afdx_lawful.specs.Sources.{least_left}
+use Rattle.afdx_law_recorded.specs.Examples.{PremisesAreMet, both_came, both_left, both_sent, source_until, stream_until}
+use Rattle.afdx_law_recorded.specs.OneSide.{AreItsArrivals, AreOfOneLink, IsQuietOn, IsShown}
+use Rattle.afdx_law_recorded.specs.Pairs.{AreAwaited, IsQuietSource, NoneIsCut}
+
+one-link : AreOfOneLink (source_until 0 2005760) (stream_until 0 2005760)
+one-link = record {
+  rule = refl;
+  options = refl;
+  exact = record { account = record { slack = refl; drift = refl; asked = refl; start = refl }; between = refl };
+  bag = refl;
+}
+
+quiet-on : (side : Side) → IsQuietOn (source_until 0 2005760) side (both_sent 988760)
+unfolding carried_by carried_in_body words ones_sum frame_of shift number is_sealed sequence_of after_steps
+    number_in times_with_room found_alone flaw_of is_whole is_copy found_of found_coming names
+quiet-on A = record {
+  named = (refl, (refl, tt));
+  by_time = (omega arith, (omega arith, tt));
+  nothing = refl;
+}
+quiet-on B = record {
+  named = (refl, (refl, tt));
+  by_time = (omega arith, (omega arith, tt));
+  nothing = refl;
+}
+
+arrivals : (side : Side) →
+    AreItsArrivals (source_until 0 2005760) side (both_sent 988760) (both_came 988760 side)
+unfolding GoByTime
+arrivals A = record {
+  at_port = refl;
+  by_time = ((omega arith, (omega arith, tt)), ((omega arith, tt), (tt, tt)));
+}
+arrivals B = record { at_port = refl; by_time = ((omega arith, tt), (tt, tt)) }
+
+shown : (side : Side) → IsShown (stream_until 0 2005760) (both_came 988760 side) (both_left 988760 side)
+unfolding is_sealed sequence_of shift number names fault_of are_same does_more one_more thinned_onto front_rest
+    first_named once_named strangeness unexplained skipped closed_to deviates came_to sound_events judged_after
+    led_by kept are_behind first_states states_at fits is_open is_begun events_of up_to least_from
+shown A = record { nothing = refl; closed = refl }
+shown B = record { nothing = refl; closed = refl }
+
+left-least : (n : ℕ) → 1000000 - (17000 - (n + 8) * 80) ≤ 100000000
+left-least n = omega arith
+
+awaited : AreAwaited (source_until 0 2005760)
+unfolding least_left
+awaited bytes = left-least bytes
+
+none-single : (side : Side) → found_single (source_until 0 2005760) side (both_sent 988760) ≡ []
+unfolding carried_by carried_in_body words ones_sum frame_of shift number is_sealed sequence_of after_steps
+    is_within_steps number_in times_with_room found_alone flaw_of is_whole is_copy
+    without_first may_pair waiting is_cut least_left
+none-single A = refl
+none-single B = refl
+
+quiet-source : IsQuietSource (source_until 0 2005760) (both_sent 988760)
+unfolding carried_by carried_in_body words ones_sum frame_of shift number is_sealed sequence_of after_steps
+    is_within_steps number_in times_with_room found_alone flaw_of is_whole is_copy found_of found_coming names
+    without_first may_pair waiting is_cut least_left
+quiet-source = record {
+  paired = refl;
+  start = refl;
+  named = (refl, (refl, (refl, (refl, tt))));
+  by_time = (omega arith, (omega arith, (omega arith, (omega arith, tt))));
+  coming = refl;
+  single = none-single;
+}
+
+uncut : NoneIsCut (source_until 0 2005760) (both_sent 988760)
+unfolding carried_by carried_in_body words ones_sum frame_of shift number is_sealed sequence_of after_steps
+    is_within_steps number_in times_with_room found_alone flaw_of is_whole is_copy
+    without_first may_pair waiting is_cut least_left
+uncut A = refl
+uncut B = refl
+
+pub premises_met : PremisesAreMet
+premises_met = record {
+  one_link = one-link;
+  quiet_on = quiet-on;
+  arrivals = arrivals;
+  shown = shown;
+  awaited = awaited;
+  quiet = quiet-source;
+  uncut = uncut;
+}

@@ -1,0 +1,3 @@
+pub mod OneSideLemmas
+pub mod PairLemmas
+pub mod ExampleLemmas

@@ -1,0 +1,3 @@
+pub mod OneSide
+pub mod Pairs
+pub mod Examples
