@@ -36,7 +36,8 @@ chmod +x out/afdx
 RT
 chmod +x "$room/kit/rt"
 echo 'a kit of its own' >"$room/identity"
-export KIT=$room/identity OLDER=$room/older CALLS=$room/calls BROKEN=$room/broken EDITED=$room/edited LUCK=$room/luck HOUSE=$house
+export KIT=$room/identity OLDER=$room/older HOUSE=$house
+export CALLS=$room/calls BROKEN=$room/broken EDITED=$room/edited LUCK=$room/luck
 export PATH=$room/kit:$PATH GIT_CONFIG_GLOBAL=/dev/null GIT_AUTHOR_NAME=a GIT_AUTHOR_EMAIL=a@b \
     GIT_COMMITTER_NAME=a GIT_COMMITTER_EMAIL=a@b
 export XDG_CACHE_HOME=$room/cache
