@@ -246,7 +246,7 @@ _afdx_takes() { # COMMAND : its options, and those that take a value
                 --drift --inner --asked --until --leave-out --switch --left)
             ;;
         'afdx-taps')
-            options=(--help --version --anyway --conform --switch)
+            options=(--help --version --anyway --conform --senders --switch)
             valued=(--switch)
             ;;
         'afdx-traffic')

@@ -281,6 +281,7 @@ _afdx_takes() { # COMMAND
             $version \
             '--anyway[print the words also where they don'\''t agree]' \
             '--conform[print the words of '\''afdx conform'\'']' \
+            '--senders[with --conform]' \
             '--switch=[which of several switches is judged]:name:' \
             ':config:_files -g "*.toml(-.)"' \
             ':taps:_files -g "*.csv(-.)"' \

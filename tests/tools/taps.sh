@@ -57,8 +57,31 @@ sound_taps_tests() {
         is_status 0
         text_is out $'--interface=0=A:1\n--interface=2=A:2\n--left=3=A:3\n--interface=4=A:3\n'
     )"
+    taps --conform --senders A.pcapng
+    tell 'words of conform of senders: what came' "$(
+        is_status 0
+        text_is out $'--senders\n--interface=0=A:1\n--interface=2=A:2\n--interface=4=A:3\n'
+    )"
     taps --conform A.pcapng A.pcapng
     tell 'words of conform are of one recording' "$(is_status 2; says err 'one recording')"
+    taps --senders A.pcapng
+    tell 'words of senders are of conform' "$(
+        is_status 2
+        text_is out $'--interface=refused\n'
+        says err '--senders is a word of afdx conform'
+    )"
+    set_taps eth1,A,1,out mgmt,,,none
+    tap out.pcapng eth1=33A mgmt=17A
+    taps --conform --senders out.pcapng
+    tell 'words of senders where nothing came' "$(
+        disagrees 'no interface goes in: nothing that systems sent was recorded'
+    )"
+    taps --conform out.pcapng
+    tell 'words of conform where nothing came' "$(
+        is_status 0
+        text_is out $'--left=0=A:1\n'
+    )"
+    set_usual
     tap A.pcapng eth3=49A eth2=33A eth1=17A mgmt= eth4=17A
     taps A.pcapng B.pcapng
     tell 'places in two recordings' "$(

@@ -3,6 +3,7 @@
     afdx replay $(afdx-taps net.toml taps.csv run.pcapng) net.toml run.pcapng
     afdx-taps net.toml taps.csv A.pcapng B.pcapng
     afdx-taps --conform net.toml taps.csv run.pcapng
+    afdx-taps --conform --senders net.toml taps.csv run.pcapng
 
 TAPS is a table as spreadsheets write it (CSV). Its first row names the columns:
 
@@ -14,7 +15,8 @@ TAPS is a table as spreadsheets write it (CSV). Its first row names the columns:
 Prints the words --interface, with --conform also --left, one a line, if
 recording and table agree: each interface has its row, each row its interface,
 and the source addresses of the frames name the place. Else it says what
-doesn't, with status 3.
+doesn't, with status 3. With --senders the words are --senders and those of
+what came in, by which 'afdx conform' judges the systems that sent it.
 """
 from __future__ import annotations
 
@@ -45,6 +47,8 @@ def say(lines: Iterable[str]) -> None:
 def words_of(args: argparse.Namespace) -> tuple[list[str], int]:
     """The words of the program, and the status."""
     recordings = [args.recording] if args.other is None else [args.recording, args.other]
+    if args.senders and not args.conform:
+        raise Refused("--senders is a word of afdx conform: it stands beside --conform")
     if args.conform and len(recordings) > 1:
         raise Refused("--conform takes one recording, of what came and of what left")
     for path in recordings:
@@ -53,7 +57,9 @@ def words_of(args: argparse.Namespace) -> tuple[list[str], int]:
     try:
         taps = read_taps(args.taps, args.switch if args.conform else None)
         config = read_config(args.config)
-        asked = asked_for(config, args.switch) if args.conform else OF_REPLAYS
+        asked = OF_REPLAYS
+        if args.conform:
+            asked = asked_for(config, args.switch, args.senders)
         found = checked(config, taps, recordings, recordings, Progress(TOOL), asked)
     except WrongTaps as wrong:
         say(wrong.lines)
@@ -88,6 +94,8 @@ def parser() -> argparse.ArgumentParser:
     add("other", metavar="RECORDING", nargs="?", help="the recording of B, beside that of A")
     add("--anyway", action="store_true", help="print the words also where they don't agree")
     add("--conform", action="store_true", help="print the words of 'afdx conform'")
+    add("--senders", action="store_true",
+        help="with --conform: the words that judge the systems by what they sent")
     add("--switch", metavar="NAME", help="which of several switches is judged, with --conform")
     return words
 

@@ -29,6 +29,7 @@ from afdx_tools.recordings.taps import (
 SENDER = b"\x02\0\0"  # a source address of an end system begins with it
 DISAGREE = 3  # the status where recording and table don't agree
 FEW = 3  # places that are named of frames that contradict theirs
+SENDERS = "--senders"  # the word of `conform` that judges the systems by what they sent
 
 
 class Tapped(NamedTuple):
@@ -193,11 +194,12 @@ def note_frames(found: Found, claims: Claims, tapped: Tapped) -> None:
 
 
 class Asked(NamedTuple):
-    """What is asked of a table: the word of an interface, and where one of several switches is
-    judged, which: rows of others may be of other recordings."""
+    """What is asked of a table: the word of an interface; where one of several switches is judged,
+    which: rows of others may be of other recordings; and whether systems are judged as senders."""
 
     word: Callable[[Claims, Tap, int], str]
     switch: str | None = None
+    of_senders: bool = False
 
 
 def word_of(claims: Claims, tap: Tap, number: int) -> str:
@@ -222,15 +224,16 @@ def conform_word(tap: Tap, number: int) -> str:
     return f"--{name}={number}={tap.place.side}:{tap.place.port}"
 
 
-def asked_for(config: Config, switch: str | None) -> Asked:
+def asked_for(config: Config, switch: str | None, of_senders: bool = False) -> Asked:
     """The words of `conform`, of one switch of several: there cables bring arrivals, too, what
-    leaves counts, and an interface without a word is left out."""
+    leaves counts, but for senders, and an interface without a word is left out."""
     want_switch(config, switch)
 
     def word(_: Claims, tap: Tap, number: int) -> str:
-        return "" if tap.is_of_another(switch) else conform_word(tap, number)
+        is_out = of_senders and tap.direction == OUT
+        return "" if is_out or tap.is_of_another(switch) else conform_word(tap, number)
 
-    return Asked(word, switch)
+    return Asked(word, switch, of_senders)
 
 
 OF_REPLAYS = Asked(word_of)
@@ -247,6 +250,10 @@ def note_words(found: Found, claims: Claims, rows: list[dict[int, Tap]], asked: 
                 "word says; record the interfaces of both networks in one order"
             )
         found.words += sorted(words)
+    if asked.of_senders:
+        if any(rows) and not found.words:
+            found.faults.append("no interface goes in: nothing that systems sent was recorded")
+        found.words.insert(0, SENDERS)
 
 
 def want_switches(config: Config, taps: list[Tap]) -> None:
