@@ -1,3 +1,9 @@
 pub mod OneSideLemmas
 pub mod PairLemmas
 pub mod ExampleLemmas
+pub mod PlaceLemmas
+pub mod HeardLemmas
+pub mod MessageLemmas
+pub mod ToldLemmas
+pub mod LeastLemmas
+pub mod NeededLemmas

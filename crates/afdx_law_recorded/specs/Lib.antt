@@ -1,3 +1,4 @@
 pub mod OneSide
 pub mod Pairs
+pub mod Receivers
 pub mod Examples

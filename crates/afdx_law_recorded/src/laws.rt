@@ -1,8 +1,10 @@
 //! What recordings say of one link, where nothing is found of its sender, nor of the switch.
 
-ghost use Rattle.afdx_law_recorded.specs.Examples.{PremisesAreMet};
+ghost use Rattle.afdx_law_recorded.specs.Examples.{CutIsMet, EachIsNeeded, PremisesAreMet};
 ghost use Rattle.afdx_law_recorded.specs.OneSide.{SentIsWhatLeft};
 ghost use Rattle.afdx_law_recorded.specs.Pairs.{QuietIsInPairs, QuietIsNumbered, UncutIsInPairs};
+ghost use Rattle.afdx_law_recorded.specs.Receivers.{BothCarrySame, EachCarriesOne, LeastIsLeft};
+ghost use Rattle.afdx_law_recorded.specs.Receivers.{RecordedIsToldOnce};
 
 /// On one side: where nothing is found of what a system sent of a link there, and nothing of the
 /// link's stream at a receiver's port, nor is anything open, what left that port is exactly what
@@ -20,7 +22,31 @@ pub fn copies_have_one_place()
     ensures numbers { QuietIsNumbered }
 {}
 
-/// All of these premises can be met: by a link of which two messages are sent on both networks.
+/// Where nothing is found of the sender of a link on both networks, nor of the link's streams at a
+/// receiver's port on both sides, and nothing is open, the receiver gets each message once and in
+/// order: as far as the side that has more, and by the times at which frames left the port.
+///
+/// Each frame carries one message. Where no copy is cut off by the end both sides carry the same.
+pub fn recorded_is_told_once()
+    ensures once { RecordedIsToldOnce }
+    ensures each { EachCarriesOne }
+    ensures same { BothCarrySame }
+{}
+
+/// What the tables leave for how far apart copies may be sent is no more than each way of the link
+/// leaves.
+pub fn tables_leave_the_least()
+    ensures { LeastIsLeft }
+{}
+
+/// All of these premises can be met: by a link of which two messages are sent on both networks,
+/// which are read once each; so they are where the end cuts off a copy.
+///
+/// In three examples all but one are met, and a message is read twice: where a frame may take a
+/// nanosecond inside beyond its latency, where copies may be sent a nanosecond further apart than
+/// the way leaves them, and where the skew is less than the latency.
 pub fn premises_are_met()
-    ensures { PremisesAreMet }
+    ensures met { PremisesAreMet }
+    ensures cut { CutIsMet }
+    ensures needed { EachIsNeeded }
 {}
