@@ -24,11 +24,14 @@ sys.dont_write_bytecode = True
 TESTS = os.path.join(os.path.dirname(os.path.abspath(__file__)), "..")
 sys.path[:0] = [os.path.join(TESTS, name) for name in ("lib", "recordings", "conform")]
 import tables as made  # noqa: E402
+from conform_claims import Judge  # noqa: E402
+from conform_terms import SENDERS  # noqa: E402
 from first_fault import config_fault, list_fault, list_lines  # noqa: E402
 from frames import HELLO, frame_of, sealed  # noqa: E402
 from hostile_lists import OneList, hostile_lists, one_list_commands  # noqa: E402
 from hostile_recorded import hostile_recorded  # noqa: E402
 from hostile_recordings import hostile_recordings  # noqa: E402
+from hostile_senders import hostile_senders  # noqa: E402
 from least import solve_answer  # noqa: E402
 from program import Answer, Cases, Program, answers, main_of, must, same_text, short  # noqa: E402
 from sender import Message, list_sent, submission_list  # noqa: E402
@@ -421,6 +424,8 @@ def conform_cases(cases: Cases, program: Program) -> Iterator[tuple]:
     yield from hostile_lists(program)
     yield from cut_cases(program)
     yield from hostile_recorded(program)
+    if program.knows("conform", SENDERS):
+        yield from hostile_senders(Judge(program))
 
 
 def try_all(cases: Cases, program: Program) -> None:

@@ -154,22 +154,22 @@ count_behind p [] ys = omega arith
 count_behind p (x ∷ xs) ys = omega (arith, count_first p x (xs ++ ys), count_behind p xs ys)
 
 pub held_few : (s : Source) (c : Course) (time : ℕ) (side : Side) (one : OneSide) →
-    StandsOn s side c.came (waited_on c side) one → AreOpen s time (all_as side one.waiting.items) →
-    length one.waiting.items ≤ recent_on s c time side
+    StandsOn s side c.came (waited_on c side) one → AreOpen s time (all_as side one.waiting) →
+    length one.waiting ≤ recent_on s c time side
 held_few s c time side one h all =
     let few = few_waiting s (λ x. nat_le time (x.time + hold s)) side c.came in
-    let size : length (all_as side one.waiting.items) ≡ length one.waiting.items =
-    length-map one.waiting.items (waiting_as side) in
+    let size : length (all_as side one.waiting) ≡ length one.waiting =
+    length-map one.waiting (waiting_as side) in
     let are : count (λ (y : Waiting). nat_le time (y.frame.time + hold s)) (waiting_of s side c.came)
     ≡ count (λ (y : Waiting). nat_le time (y.frame.time + hold s))
-    (waited_on c side ++ all_as side one.waiting.items) =
+    (waited_on c side ++ all_as side one.waiting) =
     ap (count (λ (y : Waiting). nat_le time (y.frame.time + hold s))) h.waiting in
     omega (
       arith,
       few,
       size,
       are,
-      all_pass s time (all_as side one.waiting.items) all,
+      all_pass s time (all_as side one.waiting) all,
       count_behind (λ (y : Waiting). nat_le time (y.frame.time + hold s)) (waited_on c side)
-          (all_as side one.waiting.items),
+          (all_as side one.waiting),
     )

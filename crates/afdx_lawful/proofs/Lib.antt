@@ -8,6 +8,8 @@ pub mod RightLemmas
 pub mod BuiltLemmas
 pub mod AccusedLemmas
 pub mod RingLemmas
+pub mod SlotLemmas
+pub mod WaitingLemmas
 pub mod CopyLemmas
 pub mod TwoNetworkLemmas
 pub mod NearnessLemmas

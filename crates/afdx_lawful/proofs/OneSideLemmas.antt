@@ -60,9 +60,9 @@ module _ {X : Type 0} (p : X → Bool) where
 
 pub ring_partner : (s : Source) (o : Side) (past : List Came) (x : Came) (gone : List Waiting) (one : OneSide) →
     StandsOn s o past gone one → ArePast s x.time gone →
-    partner s x (all_as o one.waiting.items) ≡ partner s x (waiting_of s o past)
+    partner s x (all_as o one.waiting) ≡ partner s x (waiting_of s o past)
 ring_partner s o past x gone one h are =
-    sym (partner_past s x gone (all_as o one.waiting.items) are) ∙ ap (partner s x) (sym h.waiting)
+    sym (partner_past s x gone (all_as o one.waiting) are) ∙ ap (partner s x) (sym h.waiting)
 
 -- ---- at first
 
@@ -130,15 +130,15 @@ module _ (s : Source) (side : Side) (past : List Came) (x : Came) (on : x.side �
           track = subst (λ (l : List Came). IsTrack s l own'.track) (sym own_past) track;
           last = subst (λ (l : List Came). AreLast l own'.last) (sym own_past) last;
           waiting = none_wait side (x ∷ past) ∙ sym (none_wait side past) ∙ h.here.waiting
-              ∙ ap (λ ws. gone side ++ all_as side ws.items) (sym same);
-          held = subst (λ ws. AreHeld s (x ∷ past) (all_as side ws.items)) (sym same)
-              (held_too s past x up (all_as side own.waiting.items) next.here);
+              ∙ ap (λ ws. gone side ++ all_as side ws) (sym same);
+          held = subst (λ ws. AreHeld s (x ∷ past) (all_as side ws)) (sym same)
+              (held_too s past x up (all_as side own.waiting) next.here);
         };
         there = record {
           track = subst (λ (l : List Came). IsTrack s l others.track) (sym other_past) h.there.track;
           last = subst (λ (l : List Came). AreLast l others.last) (sym other_past) h.there.last;
           waiting = none_wait (other side) (x ∷ past) ∙ sym (none_wait (other side) past) ∙ h.there.waiting;
-          held = held_too s past x up (all_as (other side) others.waiting.items) next.there;
+          held = held_too s past x up (all_as (other side) others.waiting) next.there;
         };
       }
 
@@ -171,8 +171,8 @@ module _ (s : Source) (side : Side) (past : List Came) (x : Came) (on : x.side �
           (h : StandOn s side past gone own others) (next : IsNext s side x gone own others) (up : ComeUpTo x.time past)
           (track : IsTrack s (x ∷ on_side side w) own'.track) (last : AreLast (x ∷ on_side side w) own'.last)
           (kept : others'.track ≡ others.track) (kept-last : others'.last ≡ others.last)
-          (rest : all_as (other side) others'.waiting.items
-          ≡ without_first (may_pair s x) (all_as (other side) others.waiting.items)) where
+          (rest : all_as (other side) others'.waiting
+          ≡ without_first (may_pair s x) (all_as (other side) others.waiting)) where
         others_stand : StandsOn s (other side) (x ∷ past) (gone (other side)) others'
         others_stand = record {
           track = subst (λ (t : _). IsTrack s (on_side (other side) (whole_of (x ∷ past))) t) (sym kept)
@@ -180,17 +180,17 @@ module _ (s : Source) (side : Side) (past : List Came) (x : Came) (on : x.side �
           last = subst (λ (t : _). AreLast (on_side (other side) (whole_of (x ∷ past))) t) (sym kept-last)
               (subst (λ (l : List Came). AreLast l others.last) (sym other_past) h.there.last);
           waiting = others_then ∙ ap (without_first (may_pair s x)) h.there.waiting
-              ∙ without_past s x (gone (other side)) (all_as (other side) others.waiting.items)
+              ∙ without_past s x (gone (other side)) (all_as (other side) others.waiting)
               (next.gone (other side))
               ∙ ap (λ (l : List Waiting). gone (other side) ++ l) (sym rest);
           held = subst (AreHeld s (x ∷ past)) (sym rest)
               (all_but (λ y. ComeUpTo (told_at s y) (x ∷ past)) (may_pair s x)
-              (all_as (other side) others.waiting.items)
-              (held_too s past x up (all_as (other side) others.waiting.items) next.there));
+              (all_as (other side) others.waiting)
+              (held_too s past x up (all_as (other side) others.waiting) next.there));
         }
 
         pub stand_paired : (y : Waiting) →
-            partner s x (all_as (other side) others.waiting.items) ≡ Some y →
+            partner s x (all_as (other side) others.waiting) ≡ Some y →
             own'.waiting ≡ own.waiting → StandOn s side (x ∷ past) gone own' others'
         stand_paired y found same =
             let some : list_any (may_pair s x) (waiting_of s (other side) past) ≡ true =
@@ -202,16 +202,16 @@ module _ (s : Source) (side : Side) (past : List Came) (x : Came) (on : x.side �
                 last = subst (λ (l : List Came). AreLast l own'.last) (sym own_past) last;
                 waiting = own_then ∙ cond-true (list_any (may_pair s x) (waiting_of s (other side) past))
                     (waiting_of s side past) _ some
-                    ∙ h.here.waiting ∙ ap (λ ws. gone side ++ all_as side ws.items) (sym same);
-                held = subst (λ ws. AreHeld s (x ∷ past) (all_as side ws.items)) (sym same)
-                    (held_too s past x up (all_as side own.waiting.items) next.here);
+                    ∙ h.here.waiting ∙ ap (λ ws. gone side ++ all_as side ws) (sym same);
+                held = subst (λ ws. AreHeld s (x ∷ past) (all_as side ws)) (sym same)
+                    (held_too s past x up (all_as side own.waiting) next.here);
               };
               there = others_stand;
             }
 
         pub stand_waiting : (q : Bool) → q ≡ is_empty (found_alone s (on_side side w) x) →
-            partner s x (all_as (other side) others.waiting.items) ≡ None →
-            WaitsToo side own.waiting.items x q own'.waiting.items → StandOn s side (x ∷ past) gone own' others'
+            partner s x (all_as (other side) others.waiting) ≡ None →
+            WaitsToo side own.waiting x q own'.waiting → StandOn s side (x ∷ past) gone own' others'
         stand_waiting q quiet none too =
             let no : list_any (may_pair s x) (waiting_of s (other side) past) ≡ false =
             any_none (may_pair s x) (waiting_of s (other side) past)
@@ -226,13 +226,13 @@ module _ (s : Source) (side : Side) (past : List Came) (x : Came) (on : x.side �
                     (waiting_of s side past) _ no
                     ∙ ap₂ (λ (a : List Waiting) (b : Bool). a ++ record { frame = x; is_quiet = b } ∷ [])
                     h.here.waiting (sym known)
-                    ∙ append_assoc (gone side) (all_as side own.waiting.items)
+                    ∙ append_assoc (gone side) (all_as side own.waiting)
                     (record { frame = x; is_quiet = q } ∷ [])
                     ∙ ap (λ (l : List Waiting). gone side ++ l) (sym too);
                 held = subst (AreHeld s (x ∷ past)) (sym too)
-                    (all_and (λ y. ComeUpTo (told_at s y) (x ∷ past)) (all_as side own.waiting.items)
+                    (all_and (λ y. ComeUpTo (told_at s y) (x ∷ past)) (all_as side own.waiting)
                     (record { frame = x; is_quiet = q })
-                    (held_too s past x up (all_as side own.waiting.items) next.here) (omega arith, up));
+                    (held_too s past x up (all_as side own.waiting) next.here) (omega arith, up));
               };
               there = others_stand;
             }
@@ -264,13 +264,13 @@ module _ (s : Source) (past : List Came) (x : Came) (damaged : is_whole x ≡ fa
   same_waiting side = ap (λ (l : List Came). if s.is_paired then waiting s side l else []) none_more
 
   stays : (side : Side) (gone : List Waiting) (one : OneSide) → StandsOn s side past gone one →
-      ComeUpTo x.time past → AreOpen s x.time (all_as side one.waiting.items) →
+      ComeUpTo x.time past → AreOpen s x.time (all_as side one.waiting) →
       StandsOn s side (x ∷ past) gone one
   stays side gone one h up fits = record {
     track = subst (λ (l : List Came). IsTrack s (on_side side l) one.track) (sym none_more) h.track;
     last = subst (λ (l : List Came). AreLast (on_side side l) one.last) (sym none_more) h.last;
     waiting = same_waiting side ∙ h.waiting;
-    held = held_too s past x up (all_as side one.waiting.items) fits;
+    held = held_too s past x up (all_as side one.waiting) fits;
   }
 
   pub stand_still : (side : Side) (gone : Side → List Waiting) (own others : OneSide) →

@@ -8,8 +8,7 @@ use Rattle.std.proofs.lemmas.List.{length-append}
 use Rattle.afdx_frame.specs.Sides.{is_side}
 use Rattle.afdx_frame.specs.declared.link.Side.{Side}
 use Rattle.afdx_frame.specs.declared.link.Side.TheVariants.{A, B}
-use Rattle.afdx_lawful.specs.Accepted.{ComeUpTo}
-use Rattle.afdx_lawful.specs.Courses.{Course, IsCourse, next_told, oldest, over, sooner, still_waiting, told_on, told_too}
+use Rattle.afdx_lawful.specs.Courses.{Course, IsCourse, next_told, oldest, over, sooner, still_waiting, told_on}
 use Rattle.afdx_lawful.specs.Flaws.{whole_of}
 use Rattle.afdx_lawful.specs.Judged.{waiting_of}
 use Rattle.afdx_lawful.specs.Order.{ToldInOrder}

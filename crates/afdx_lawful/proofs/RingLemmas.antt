@@ -1,64 +1,24 @@
--- The partner of a frame among those that wait, by places.
+-- The partner of a frame among those that wait.
 use Rattle.std.proofs.Common.{◌≡◌, ℕ, ◌+◌, ◌<◌, ◌≤◌, Bool, true, false, List, [], ◌∷◌, refl, sym, ap, ap₂, ◌∙◌}
-use Rattle.std.proofs.Common.{arith, length, Some, None}
-use Rattle.std.specs.Prelude.{suc, if◌then◌else◌, ◌&&◌, not, nat_eq, nat_le, nat_lt, map, option_map, position, find}
-use Rattle.std.specs.Prelude.{slice_index_or}
-use Rattle.std.specs.List.{position_or_len, remove}
-use Rattle.std.proofs.lemmas.Bool.{ltb-true, ltb-false}
-use Rattle.afdx_frame.specs.declared.link.Side.{Side}
+use Rattle.std.proofs.Common.{arith, length, Option, Some, None}
+use Rattle.std.specs.Prelude.{suc, if◌then◌else◌, ◌&&◌, nat_eq, nat_lt, option_map, position, find, MatchOption}
+use Rattle.std.specs.List.{position_or_len}
+use Rattle.std.proofs.lemmas.Bool.{le-leb, ltb-true, ltb-false}
 use Rattle.afdx_lawful.specs.Alone.{number_in}
-use Rattle.afdx_lawful.specs.Limits.{AreLimits}
+use Rattle.afdx_frame.specs.declared.link.Side.{Side}
+use Rattle.afdx_lawful.specs.Courses.{AreOpen, oldest}
 use Rattle.afdx_lawful.specs.Partners.{may_pair, partner, without_first}
-use Rattle.afdx_lawful.specs.Rings.{all_as, pairs, waiting_as}
-use Rattle.afdx_lawful.specs.Sources.{Came, Source}
-use Rattle.afdx_lawful.specs.declared.limits.SenderLimits.{SenderLimits}
+use Rattle.afdx_lawful.specs.Rings.{all_as, has_number, waiting_as}
+use Rattle.afdx_lawful.specs.Sources.{Came, Source, hold}
 use Rattle.afdx_lawful.specs.declared.waits.Waits.{Waits}
 
--- ---- lists
+-- ---- places
 
-one_more : (n : ℕ) → 1 + n ≡ suc n
+pub one_more : (n : ℕ) → 1 + n ≡ suc n
 one_more n = omega arith
 
 module _ {X : Type 0} (p : X → Bool) where
-  removed : (xs : List X) → position_or_len p xs < length xs → remove xs (position_or_len p xs) ≡ without_first p xs
-  unfolding without_first
-  removed [] h = absurd (omega (arith, h))
-  removed (x ∷ xs) h = by (p x) (removed xs) h
-    where
-      by : (b : Bool) → (position_or_len p xs < length xs →
-          remove xs (position_or_len p xs) ≡ without_first p xs) →
-          (if not b then 1 + position_or_len p xs else 0) < length (x ∷ xs) →
-          remove (x ∷ xs) (if not b then 1 + position_or_len p xs else 0) ≡ (if b then xs else x ∷ without_first p xs)
-      by true rest h = refl
-      by false rest h =
-          ap (remove (x ∷ xs)) (one_more (position_or_len p xs)) ∙ ap (λ (l : List X). x ∷ l) (rest (omega (arith, h)))
-
-  found : (xs : List X) (d : X) → position_or_len p xs < length xs →
-      Some (slice_index_or xs (position_or_len p xs) d) ≡ find p xs
-  found [] d h = absurd (omega (arith, h))
-  found (x ∷ xs) d h = by (p x) (found xs d) h
-    where
-      by : (b : Bool) → (position_or_len p xs < length xs →
-          Some (slice_index_or xs (position_or_len p xs) d) ≡ find p xs) →
-          (if not b then 1 + position_or_len p xs else 0) < length (x ∷ xs) →
-          Some (slice_index_or (x ∷ xs) (if not b then 1 + position_or_len p xs else 0) d)
-          ≡ (if b then Some x else find p xs)
-      by true rest h = refl
-      by false rest h =
-          ap (λ n. Some (slice_index_or (x ∷ xs) n d)) (one_more (position_or_len p xs)) ∙ rest (omega (arith, h))
-
-  none_found : (xs : List X) → length xs ≤ position_or_len p xs → (None ≡ find p xs) × (xs ≡ without_first p xs)
-  unfolding without_first
-  none_found [] h = (refl, refl)
-  none_found (x ∷ xs) h = by (p x) (none_found xs) h
-    where
-      by : (b : Bool) → (length xs ≤ position_or_len p xs → (None ≡ find p xs) × (xs ≡ without_first p xs)) →
-          length (x ∷ xs) ≤ (if not b then 1 + position_or_len p xs else 0) →
-          (None ≡ (if b then Some x else find p xs)) × (x ∷ xs ≡ (if b then xs else x ∷ without_first p xs))
-      by true rest h = absurd (omega (arith, h))
-      by false rest h = let r = rest (omega (arith, h)) in (r.0, ap (λ (l : List X). x ∷ l) r.1)
-
-  at_place : (xs : List X) (k : ℕ) → position p xs ≡ Some k →
+  pub at_place : (xs : List X) (k : ℕ) → position p xs ≡ Some k →
       (position_or_len p xs ≡ k) × (position_or_len p xs < length xs)
   at_place xs k h = by (nat_lt (position_or_len p xs) (length xs)) refl h
     where
@@ -71,7 +31,7 @@ module _ {X : Type 0} (p : X → Bool) where
           same h = cc
       by false e h = absurd (cc h)
 
-  at_none : (xs : List X) → position p xs ≡ None → length xs ≤ position_or_len p xs
+  pub at_none : (xs : List X) → position p xs ≡ None → length xs ≤ position_or_len p xs
   at_none xs h = by (nat_lt (position_or_len p xs) (length xs)) refl h
     where
       by : (b : Bool) → nat_lt (position_or_len p xs) (length xs) ≡ b →
@@ -79,65 +39,64 @@ module _ {X : Type 0} (p : X → Bool) where
       by true e h = absurd (cc h)
       by false e h = ltb-false _ _ e
 
--- of what another test sees alike
-module _ {X Y : Type 0} (f : X → Y) (p : X → Bool) (q : Y → Bool) (same : (x : X) → p x ≡ q (f x)) where
-  find_mapped : (xs : List X) → option_map f (find p xs) ≡ find q (map f xs)
-  find_mapped [] = refl
-  find_mapped (x ∷ xs) = by (p x) (q (f x)) (find_mapped xs) (same x)
-    where
-      by : (a b : Bool) → option_map f (find p xs) ≡ find q (map f xs) → a ≡ b →
-          option_map f (if a then Some x else find p xs)
-          ≡ (if b then Some (f x) else find q (map f xs))
-      by true true rest e = refl
-      by false false rest e = rest
-      by true false rest e = absurd (cc e)
-      by false true rest e = absurd (cc e)
+-- ---- the first of a list
 
-  without_mapped : (xs : List X) → map f (without_first p xs) ≡ without_first q (map f xs)
-  unfolding without_first
-  without_mapped [] = refl
-  without_mapped (x ∷ xs) = by (p x) (q (f x)) (without_mapped xs) (same x)
-    where
-      by : (a b : Bool) → map f (without_first p xs) ≡ without_first q (map f xs) → a ≡ b →
-          map f (if a then xs else x ∷ without_first p xs)
-          ≡ (if b then map f xs else f x ∷ without_first q (map f xs))
-      by true true rest e = refl
-      by false false rest e = ap (λ (l : List Y). f x ∷ l) rest
-      by true false rest e = absurd (cc e)
-      by false true rest e = absurd (cc e)
+pub first_taken : {X : Type 0} (xs rest : List X) (o : Option X) → o ≡ find (λ x. true) xs →
+    rest ≡ without_first (λ x. true) xs → MatchOption o ((xs ≡ []) × (rest ≡ xs)) (λ x. xs ≡ x ∷ rest)
+unfolding without_first
+first_taken [] rest None e f = (refl, f)
+first_taken (x ∷ xs) rest None e f = absurd (cc e)
+first_taken [] rest (Some y) e f = absurd (cc e)
+first_taken (x ∷ xs) rest (Some y) e f = cc (e, f)
+
+pub oldest_is : (side : Side) (ws : List Waits) (o : Option Waits) → o ≡ find (λ w. true) ws →
+    option_map (λ w. w.time) o ≡ option_map (λ y. y.frame.time) (oldest (all_as side ws))
+oldest_is side [] o e = ap (option_map (λ (w : Waits). w.time)) e
+oldest_is side (w ∷ ws) o e = ap (option_map (λ (w : Waits). w.time)) e
 
 -- ---- those that wait
 
-module _ (s : Source) (side : Side) (x : Came) (limits : SenderLimits) (time number : ℕ) (are : AreLimits s limits)
-    (time-is : x.time ≡ time) (number-is : number_in x ≡ number) where
-  alike : (w : Waits) → pairs limits time number w ≡ may_pair s x (waiting_as side w)
+and_so : (a b : Bool) → b ≡ true → (a && b) ≡ a
+and_so true b e = e
+and_so false b e = refl
+
+module _ (s : Source) (side : Side) (x : Came) (number : ℕ) (number-is : number_in x ≡ number) where
+  alike : (w : Waits) → x.time ≤ w.time + hold s → has_number number w ≡ may_pair s x (waiting_as side w)
   unfolding may_pair number_in
-  alike w =
-      ap₂ (λ (a b : Bool). a && b) (ap₂ nat_eq w.numbered (sym number-is))
-      (ap₂ nat_le (sym time-is) (ap (λ n. w.time + n) are.hold))
+  alike w up =
+      ap₂ nat_eq w.numbered (sym number-is)
+      ∙ sym (and_so (nat_eq (number_in (waiting_as side w).frame) (number_in x)) _ (le-leb x.time (w.time + hold s) up))
 
-  pub partner_none : (ws : List Waits) → position (pairs limits time number) ws ≡ None →
-      (None ≡ partner s x (all_as side ws)) × (all_as side ws ≡ without_first (may_pair s x) (all_as side ws))
-  partner_none ws h =
-      let none = none_found (pairs limits time number) ws (at_none (pairs limits time number) ws h) in (
-        ap (option_map (waiting_as side)) none.0
-            ∙ find_mapped (waiting_as side) (pairs limits time number) (may_pair s x) alike ws,
-        ap (all_as side) none.1
-            ∙ without_mapped (waiting_as side) (pairs limits time number) (may_pair s x) alike ws,
-      )
+  pub partner_is : (ws : List Waits) → AreOpen s x.time (all_as side ws) →
+      option_map (waiting_as side) (find (has_number number) ws) ≡ partner s x (all_as side ws)
+  partner_is [] h = refl
+  partner_is (w ∷ ws) h =
+      by (has_number number w) (may_pair s x (waiting_as side w)) (alike w h.0) (partner_is ws h.1)
+    where
+      by : (a b : Bool) → a ≡ b →
+          option_map (waiting_as side) (find (has_number number) ws) ≡ partner s x (all_as side ws) →
+          option_map (waiting_as side) (if a then Some w else find (has_number number) ws)
+          ≡ (if b then Some (waiting_as side w) else partner s x (all_as side ws))
+      by true true e rest = refl
+      by false false e rest = rest
+      by true false e rest = absurd (cc e)
+      by false true e rest = absurd (cc e)
 
-  pub partner_at : (ws : List Waits) (k : ℕ) (d : Waits) → position (pairs limits time number) ws ≡ Some k →
-      (Some (waiting_as side (slice_index_or ws k d)) ≡ partner s x (all_as side ws))
-      × (all_as side (remove ws k) ≡ without_first (may_pair s x) (all_as side ws))
-  partner_at ws k d h =
-      let at = at_place (pairs limits time number) ws k h in (
-        ap (λ n. Some (waiting_as side (slice_index_or ws n d))) (sym at.0)
-            ∙ ap (option_map (waiting_as side)) (found (pairs limits time number) ws d at.1)
-            ∙ find_mapped (waiting_as side) (pairs limits time number) (may_pair s x) alike ws,
-        ap (λ n. all_as side (remove ws n)) (sym at.0)
-            ∙ ap (all_as side) (removed (pairs limits time number) ws at.1)
-            ∙ without_mapped (waiting_as side) (pairs limits time number) (may_pair s x) alike ws,
-      )
+  pub rest_is : (ws : List Waits) → AreOpen s x.time (all_as side ws) →
+      all_as side (without_first (has_number number) ws) ≡ without_first (may_pair s x) (all_as side ws)
+  unfolding without_first
+  rest_is [] h = refl
+  rest_is (w ∷ ws) h =
+      by (has_number number w) (may_pair s x (waiting_as side w)) (alike w h.0) (rest_is ws h.1)
+    where
+      by : (a b : Bool) → a ≡ b →
+          all_as side (without_first (has_number number) ws) ≡ without_first (may_pair s x) (all_as side ws) →
+          all_as side (if a then ws else w ∷ without_first (has_number number) ws)
+          ≡ (if b then all_as side ws else waiting_as side w ∷ without_first (may_pair s x) (all_as side ws))
+      by true true e rest = refl
+      by false false e rest = ap (λ l. waiting_as side w ∷ l) rest
+      by true false e rest = absurd (cc e)
+      by false true e rest = absurd (cc e)
 
 pub number_kept : (w : Waits) (side : Side) → w.number ≡ number_in (waiting_as side w).frame
 unfolding number_in

@@ -131,11 +131,11 @@ sooner_b s time (Some a) (Some b) h = by (nat_le a.frame.time b.frame.time) refl
 
 module _ (s : Source) (c : Course) where
   pub still_is : (side : Side) (one : OneSide) → StandsOn s side c.came (waited_on c side) one →
-      still_waiting s c side ≡ all_as side one.waiting.items
+      still_waiting s c side ≡ all_as side one.waiting
   unfolding still_waiting
   still_is side one h =
       ap₂ (λ (n : ℕ) (l : List Waiting). drop n l) (sym (length-map (over c side) (λ u. u.waited))) h.waiting
-      ∙ drop-append_seam (waited_on c side) (all_as side one.waiting.items)
+      ∙ drop-append_seam (waited_on c side) (all_as side one.waiting)
 
   module _ (both : BothSides) (h : StandBoth s c.came (waited_on c) both) where
     pub next_is : next_told s c ≡ next_in both
@@ -147,7 +147,7 @@ module _ (s : Source) (c : Course) where
     none_left none = told (ring_on A both) (ring_on B both) refl refl none
       where
         bare : (side : Side) (one : OneSide) → StandsOn s side c.came (waited_on c side) one →
-            all_as side one.waiting.items ≡ [] → waiting_of s side c.came ≡ waited_on c side
+            all_as side one.waiting ≡ [] → waiting_of s side c.came ≡ waited_on c side
         bare side one stand e =
             stand.waiting ∙ ap (λ (l : List Waiting). waited_on c side ++ l) e ∙ append_none (waited_on c side)
           where
@@ -172,9 +172,9 @@ module _ (s : Source) (c : Course) where
 
     module _ (end : ℕ) (up : ComeUpTo end c.came) (time : ℕ) (not : NotBefore s time (next_told s c)) where
       turned_on : (side : Side) (one : OneSide) → StandsOn s side c.came (waited_on c side) one →
-          InTurn 0 end (all_as side one.waiting.items)
+          InTurn 0 end (all_as side one.waiting)
       turned_on side one stand =
-          turn_behind 0 end (waited_on c side) (all_as side one.waiting.items)
+          turn_behind 0 end (waited_on c side) (all_as side one.waiting)
           (subst (InTurn 0 end) stand.waiting (turn_of s side c.came end up))
 
       not_in : NotBefore s time (next_in both)
@@ -267,15 +267,15 @@ module _ (s : Source) (c : Course) (y : Waiting) where
   other_waited B = refl
 
   pub told_stands : (side : Side) (own others own' : OneSide) → StandOn s side c.came (waited_on c) own others →
-      all_as side own.waiting.items ≡ y ∷ all_as side own'.waiting.items → own'.track ≡ own.track →
+      all_as side own.waiting ≡ y ∷ all_as side own'.waiting → own'.track ≡ own.track →
       own'.last ≡ own.last → StandOn s side c.came (waited_on (told_on s c y side)) own' others
   told_stands side own others own' h rest track last = record {
     here = record {
       track = subst (λ (t : Track). IsTrack s (on_side side (whole_of c.came)) t) (sym track) h.here.track;
       last = subst (λ (t : LastCame). AreLast (on_side side (whole_of c.came)) t) (sym last) h.here.last;
       waiting = h.here.waiting ∙ ap (λ (l : List Waiting). waited_on c side ++ l) rest
-          ∙ sym (append_assoc (waited_on c side) (y ∷ []) (all_as side own'.waiting.items))
-          ∙ ap (λ (l : List Waiting). l ++ all_as side own'.waiting.items) (sym (own_waited side));
+          ∙ sym (append_assoc (waited_on c side) (y ∷ []) (all_as side own'.waiting))
+          ∙ ap (λ (l : List Waiting). l ++ all_as side own'.waiting) (sym (own_waited side));
       held = (subst (AreHeld s c.came) rest h.here.held).1;
     };
     there = subst (λ (l : List Waiting). StandsOn s (other side) c.came l others) (sym (other_waited side)) h.there;
@@ -332,10 +332,10 @@ pub record IsNextOn (both : BothSides) (side : Side) : Type 0 where
 pub next_on : (both : BothSides) (side : Side) (time : ℕ) → Some (side, time) ≡ option_map at (next_in both) →
     IsNextOn both side
 next_on both A time h =
-    let o = oldest_on A time both.a.waiting.items both.b.waiting.items h in
+    let o = oldest_on A time both.a.waiting both.b.waiting h in
     record { y = o.0; next = o.1; old = o.2 }
 next_on both B time h =
-    let o = oldest_on B time both.a.waiting.items both.b.waiting.items h in
+    let o = oldest_on B time both.a.waiting both.b.waiting h in
     record { y = o.0; next = o.1; old = o.2 }
 
 abbrev time_in : Option (Side × ℕ) → ℕ

@@ -46,8 +46,8 @@ pub record StandsOn (s : Source) (side : Side) (xs : List Came) (gone : List Wai
     (one : OneSide) : Type 0 where
   pub track : IsTrack s (on_side side (whole_of xs)) one.track
   pub last : AreLast (on_side side (whole_of xs)) one.last
-  pub waiting : waiting_of s side xs ≡ gone ++ all_as side one.waiting.items
-  pub held : AreHeld s xs (all_as side one.waiting.items)
+  pub waiting : waiting_of s side xs ≡ gone ++ all_as side one.waiting
+  pub held : AreHeld s xs (all_as side one.waiting)
 
 -- and of both, this side first
 pub record StandOn (s : Source) (side : Side) (xs : List Came) (gone : Side → List Waiting)
@@ -59,8 +59,8 @@ pub record StandOn (s : Source) (side : Side) (xs : List Came) (gone : Side → 
 pub record IsNext (s : Source) (side : Side) (x : Came) (over : Side → List Waiting)
     (own others : OneSide) : Type 0 where
   pub gone : (o : Side) → ArePast s x.time (over o)
-  pub here : AreOpen s x.time (all_as side own.waiting.items)
-  pub there : AreOpen s x.time (all_as (other side) others.waiting.items)
+  pub here : AreOpen s x.time (all_as side own.waiting)
+  pub there : AreOpen s x.time (all_as (other side) others.waiting)
 
 -- it isn't damaged, its source is seen on both sides, and no copy of it came that waits
 pub record HasToWait (s : Source) (past : List Came) (x : Came) : Type 0 where

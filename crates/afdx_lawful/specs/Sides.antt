@@ -19,12 +19,12 @@ AreNext s x gone both = IsNext s A x gone both.a both.b
 
 -- those that wait on a side, the oldest first
 abbrev pub ring_on : Side → BothSides → List Waiting
-ring_on A both = all_as A both.a.waiting.items
-ring_on B both = all_as B both.b.waiting.items
+ring_on A both = all_as A both.a.waiting
+ring_on B both = all_as B both.b.waiting
 
 -- the oldest of both sides, that of A at one time
 abbrev pub next_in : BothSides → Option Waiting
 next_in both = sooner (oldest (ring_on A both)) (oldest (ring_on B both))
 
 abbrev pub held_by : BothSides → ℕ
-held_by both = length both.a.waiting.items + length both.b.waiting.items
+held_by both = length both.a.waiting + length both.b.waiting

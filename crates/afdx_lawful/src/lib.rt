@@ -21,6 +21,7 @@ mod sides;
 mod tally;
 mod track;
 mod unpaired;
+mod waiting_frames;
 mod waits;
 mod ways;
 mod whole;

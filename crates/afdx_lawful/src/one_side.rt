@@ -1,6 +1,6 @@
 //! The frames of a source on one network, and one more of them.
 
-ghost use Rattle.std.specs.Prelude.{◌≡◌, ◌≤◌, List, ◌∷◌, length, option_map, Some};
+ghost use Rattle.std.specs.Prelude.{◌≡◌, ◌≤◌, ◌<◌, ◌^◌, List, ◌∷◌, length, option_map, Some};
 ghost use Rattle.std.specs.Prelude.{IfOk, IfSome, OnErr, OnOk};
 ghost use Rattle.afdx_frame.specs.declared.link.Side.{Side};
 ghost use Rattle.afdx_frame.specs.Times.{latest_listed};
@@ -24,6 +24,7 @@ use crate::last::LastCame;
 use crate::late::too_late;
 use crate::partners::take_partner;
 use crate::track::Track;
+use crate::waiting_frames::WaitingFrames;
 use crate::waits::Waits;
 use crate::ways::SourceTerms;
 use crate::whole::Whole;
@@ -52,7 +53,7 @@ fn compare(terms: &SourceTerms, whole: Whole<'_>, partner: &Waits) -> Copied
 pub(crate) struct OneSide {
     track: Track,
     pub last: LastCame,
-    pub waiting: Vec<Waits>,
+    pub waiting: WaitingFrames,
 }
 
 impl OneSide {
@@ -68,27 +69,25 @@ impl OneSide {
         OneSide {
             track: Track::new(is_begun),
             last: LastCame::new(),
-            waiting: Vec::new(alloc),
+            waiting: WaitingFrames::new(alloc),
         }
     }
 
     /// When, in ns, the oldest frame came that waits.
     pub fn oldest(&self) -> Option<u64>
         ensures time { (side : Side) → result ≡ option_map (λ y. y.frame.time)
-            (oldest (all_as side self.now.waiting.items)) }
+            (oldest (all_as side self.now.waiting)) }
         ensures listed { IfSome result (λ time. time ≤ latest_listed) }
     {
-        match self.waiting.first() {
-            Some(waits) => Some(waits.time),
-            None => None,
-        }
+        self.waiting.oldest()
     }
 
     /// How many frames wait.
     pub fn held(&self) -> usize
-        ensures { result ≡ length self.now.waiting.items }
+        ensures held { result ≡ length self.now.waiting }
+        ensures few { result < 2 ^ 63 }
     {
-        self.waiting.len()
+        self.waiting.count()
     }
 
     /// A frame waits for its copy. The error says that memory was refused.
@@ -100,9 +99,9 @@ impl OneSide {
     ) -> Result<(), AllocError>
         ensures track { self.new.track ≡ self.old.track }
         ensures last { self.new.last ≡ self.old.last }
-        ensures refused { OnErr result (self.new.waiting.items ≡ self.old.waiting.items) }
+        ensures refused { OnErr result (self.new.waiting ≡ self.old.waiting) }
         ensures waits { (side : Side) (x : Came) → IsCame side whole.entry x →
-            OnOk result (WaitsToo side self.old.waiting.items x is_quiet self.new.waiting.items) }
+            OnOk result (WaitsToo side self.old.waiting x is_quiet self.new.waiting) }
     {
         let bytes = CheckedBytes::of(spare, whole.frame)?;
         self.waiting.push(Waits {
@@ -165,7 +164,7 @@ pub(crate) fn hear(
             copied: Copied::Well,
         });
     }
-    let partner = take_partner(&mut other.waiting, &terms.limits, whole.time, whole.number);
+    let partner = take_partner(&mut other.waiting, whole.number);
     match partner {
         Some(partner) => {
             own.pass(track, whole.time, whole.number);

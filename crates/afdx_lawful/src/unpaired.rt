@@ -24,7 +24,7 @@ use crate::finding::SenderFinding;
 use crate::last::LastCame;
 use crate::one_side::OneSide;
 use crate::tally::SourceTally;
-use crate::waits::{Waits, take_oldest};
+use crate::waits::Waits;
 use crate::ways::SourceTerms;
 use afdx_frame::Side;
 
@@ -135,17 +135,17 @@ pub(crate) fn tell_oldest(
     end: Option<u64>,
     tally: &mut SourceTally,
 ) -> Option<UnpairedFrame>
-    ensures none { IfNone result ((own.old.waiting.items ≡ []) × (own.new ≡ own.old)
+    ensures none { IfNone result ((own.old.waiting ≡ []) × (own.new ≡ own.old)
         × (tally.new ≡ tally.old)) }
     ensures less { IfSome result
-        (λ told. length own.new.waiting.items + 1 ≡ length own.old.waiting.items) }
+        (λ told. length own.new.waiting + 1 ≡ length own.old.waiting) }
     ensures told { (s : Terms) (c : Course) → AreTerms s terms.now →
         StandOn s side c.came (waited_on c) own.old others.now → IsTally s c tally.old →
         IfSome result (λ told. (y : Waiting)
-        × (oldest (all_as side own.old.waiting.items) ≡ Some y)
+        × (oldest (all_as side own.old.waiting) ≡ Some y)
         × (IsKnownBy s end y → IsToldOn s c side y own.new others.now tally.new told)) }
 {
-    let Some(waits) = take_oldest(&mut own.waiting) else {
+    let Some(waits) = own.waiting.take_oldest() else {
         return None;
     };
     let is_cut = is_cut(terms, &waits, &others.last, end);

@@ -1,6 +1,6 @@
-//! The frames of a side that wait for their copies.
+//! A frame that waits for its copy.
 
-ghost use Rattle.std.specs.Prelude.{◌≡◌, ◌≤◌, [], ◌∷◌, MatchOption};
+ghost use Rattle.std.specs.Prelude.{◌≡◌, ◌≤◌};
 ghost use Rattle.afdx_frame.specs.Parts.{number_of_frame};
 ghost use Rattle.afdx_frame.specs.Times.{latest_listed};
 ghost use Rattle.afdx_lawful.specs.Flaws.{IsWholeFrame};
@@ -19,15 +19,4 @@ pub(crate) struct Waits {
     pub ghost listed: { time ≤ latest_listed },
     pub ghost numbered: { number ≡ number_of_frame bytes },
     pub ghost whole: { IsWholeFrame bytes },
-}
-
-/// Takes the oldest of the frames that wait, which stands first, if there is one.
-pub(crate) fn take_oldest(waiting: &mut Vec<Waits>) -> Option<Waits>
-    ensures { MatchOption result ((waiting.old.items ≡ []) × (waiting.new ≡ waiting.old))
-        (λ waits. waiting.old.items ≡ waits ∷ waiting.new.items) }
-{
-    if waiting.is_empty() {
-        return None;
-    }
-    Some(waiting.remove(0))
 }

@@ -38,7 +38,7 @@ returns-in-Some-clause-found c s side past gone x are is flaw next stand =
     (ap (λ line. told_alone line c.come-alone.result) (sym is.line)
     ∙ c.come-alone.ensures.found s _ x are.limits is.time number flaw stand.here.track)
     (c.compare-copied.ensures s side (other side) x are is
-    ∙ ap (found_with s x) (c.in-Some.ensures.partner s (other side) x are.limits is.time number)
+    ∙ ap (found_with s x) (c.in-Some.ensures.partner s (other side) x number next.there)
     ∙ ap (found_with s x) (ring_partner s (other side) past x _ _ stand.there (next.gone (other side))))
 
 pub returns-in-Some-clause-stand : goal.returns-in-Some-clause-stand
@@ -49,9 +49,9 @@ returns-in-Some-clause-stand c s side past gone x are is flaw next up stand =
     (subst (λ t. IsTrack s (x ∷ on_side side (whole_of past)) t) (sym c.pass-in-Some.ensures.track)
     (c.come-alone.ensures.stands s _ x are.limits is.time number stand.here.track))
     (c.pass-in-Some.ensures.last _ x is.time number stand.here.last) refl refl
-    (c.in-Some.ensures.rest s (other side) x are.limits is.time number)
+    (c.in-Some.ensures.rest s (other side) x number next.there)
     (waiting_as (other side) c.in-Some.partner)
-    (sym (c.in-Some.ensures.partner s (other side) x are.limits is.time number)) c.pass-in-Some.ensures.waiting
+    (sym (c.in-Some.ensures.partner s (other side) x number next.there)) c.pass-in-Some.ensures.waiting
 
 pub returns-in_err-wait-in-None-clause-waits : goal.returns-in_err-wait-in-None-clause-waits
 returns-in_err-wait-in-None-clause-waits c s side past gone x are is next stand =
@@ -59,7 +59,7 @@ returns-in_err-wait-in-None-clause-waits c s side past gone x are is next stand 
     on_err c.from_residual.result _ (
     has_to_wait s side past x is.on (came_whole side c.args.whole x is) (are.paired ∙ c.if-not-terms.false)
     (sym (ring_partner s (other side) past x _ _ stand.there (next.gone (other side)))
-    ∙ sym (c.in-None.ensures.partner s (other side) x are.limits is.time number))
+    ∙ sym (c.in-None.ensures.partner s (other side) x number next.there))
     )
 
 pub returns-in_ok-wait-in-None-clause-found : goal.returns-in_ok-wait-in-None-clause-found
@@ -69,7 +69,7 @@ returns-in_ok-wait-in-None-clause-found c s side past gone x are is flaw next st
     found_is s side past x is.on whole _ _
     (ap (λ line. told_alone line c.come-alone.result) (sym is.line)
     ∙ c.come-alone.ensures.found s _ x are.limits is.time number flaw stand.here.track)
-    (ap (found_with s x) (c.in-None.ensures.partner s (other side) x are.limits is.time number)
+    (ap (found_with s x) (c.in-None.ensures.partner s (other side) x number next.there)
     ∙ ap (found_with s x) (ring_partner s (other side) past x _ _ stand.there (next.gone (other side))))
 
 pub returns-in_ok-wait-in-None-clause-stand : goal.returns-in_ok-wait-in-None-clause-stand
@@ -81,10 +81,10 @@ returns-in_ok-wait-in-None-clause-stand c s side past gone x are is flaw next up
     (c.come-alone.ensures.stands s _ x are.limits is.time number stand.here.track))
     (c.pass-in-None.ensures.last _ x is.time number
     (subst (λ t. AreLast (on_side side (whole_of past)) t) (sym c.wait.ensures.last) stand.here.last)) refl refl
-    (c.in-None.ensures.rest s (other side) x are.limits is.time number)
+    (c.in-None.ensures.rest s (other side) x number next.there)
     c.is_quiet.result
     (c.is_quiet.ensures x.line
     ∙ ap is_empty (c.come-alone.ensures.found s _ x are.limits is.time number flaw stand.here.track))
-    (sym (c.in-None.ensures.partner s (other side) x are.limits is.time number))
-    (subst (λ ws. WaitsToo side c.args.own.now.waiting.items x c.is_quiet.result ws.items)
+    (sym (c.in-None.ensures.partner s (other side) x number next.there))
+    (subst (λ ws. WaitsToo side c.args.own.now.waiting x c.is_quiet.result ws)
     (sym c.pass-in-None.ensures.waiting) (c.in_ok-wait-in-None.ensures.waits side x is))

@@ -8,6 +8,6 @@ pub returns : goal.returns
 returns c s side first = record {
   track = c.new.ensures s first;
   last = c.new-2.ensures;
-  waiting = none_at_first s side ∙ ap (λ ws. all_as side ws) (sym c.new-3.ensures.items);
-  held = subst (λ ws. AreHeld s [] (all_as side ws)) (sym c.new-3.ensures.items) _;
+  waiting = none_at_first s side ∙ ap (λ ws. all_as side ws) (sym c.new-3.ensures);
+  held = subst (λ ws. AreHeld s [] (all_as side ws)) (sym c.new-3.ensures) _;
 }

@@ -1,0 +1,16 @@
+use Rattle.std.proofs.Common.{ap, ◌∙◌}
+use Rattle.std.specs.Prelude.{position}
+use Rattle.std.specs.Option.{is_some}
+use Rattle.afdx_lawful.specs.declared.waits.Waits.{Waits}
+use Rattle.afdx_lawful.proofs.SlotLemmas.{none_on, steps_on}
+use Rattle.afdx_lawful.proofs.waiting_frames.first_held.Goals as goal
+
+pub returns-in-Some : goal.returns-in-Some
+returns-in-Some c =
+    steps_on (is_some {T = Waits}) c.args.slots.now c.args.from c.in-Some.steps c.requires.none_before
+    (c.in-Some.ensures ∙ ap (position (is_some {T = Waits})) c.slots_from.ensures)
+
+pub returns-in-None : goal.returns-in-None
+returns-in-None c =
+    none_on (is_some {T = Waits}) c.args.slots.now c.args.from c.requires.none_before
+    (c.in-None.ensures ∙ ap (position (is_some {T = Waits})) c.slots_from.ensures)
