@@ -178,6 +178,7 @@ accepted-kept t past x port run =
 
 pub loses-nothing : (t : Rows) (past : List Arrival) (x : Arrival) → IsAdmittedRun t (x ∷ past)
     → (v : Verdict) → IsVerdict t past x v → LosesNothing v
+unfolding holds
 loses-nothing t past x run (Dropped reason) is = tt
 loses-nothing t past x run (Accepted lost) is = λ port. elim (bool_cases (holds lost port)) [
   | inr kept ↦ kept

@@ -3,6 +3,7 @@ pub mod ForwardLemmas
 pub mod NamedLemmas
 pub mod TakeLemmas
 pub mod ArrivalLemmas
+pub mod SetLemmas
 pub mod StandsLemmas
 pub mod FoundLemmas
 pub mod EarlyLemmas

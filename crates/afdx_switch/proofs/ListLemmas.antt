@@ -1,9 +1,8 @@
 -- Lists that are set at one place, searched, or lent.
 use Rattle.std.proofs.Common.{◌≡◌, ◌≢◌, ℕ, zero, suc, ◌<◌, Bool, true, false, List, [], ◌∷◌}
 use Rattle.std.proofs.Common.{◌++◌, length, take, drop, set, get_or, refl, sym, ap, subst, arith}
-use Rattle.std.proofs.Common.{◌∙◌, inl, inr, true≢false, IsTrue, not, ◌↔◌}
+use Rattle.std.proofs.Common.{◌∙◌, inl, inr}
 use Rattle.std.specs.Prelude.{All, Some, None, slice_get, find, if◌then◌else◌, ◌⊎◌}
-use Rattle.std.specs.List.{list_any}
 use Rattle.std.proofs.lemmas.Bool.{cases_eq}
 use Rattle.std.proofs.lemmas.List.{get_or-set_same, get_or-set_other, length-set, take-append-le}
 use Rattle.std.proofs.Math.Seq.{take-length}
@@ -13,12 +12,6 @@ use Rattle.afdx_frame.proofs.ListLemmas.{slice_get-set_here, slice_get-set_there
 pub bool_cases : (b : Bool) → (b ≡ true) ⊎ (b ≡ false)
 bool_cases true = inl refl
 bool_cases false = inr refl
-
-pub none_held : (xs : List Bool) → list_any (λ b. b) xs ≡ false → (p : ℕ) → get_or xs p false ≡ false
-none_held [] none p = refl
-none_held (false ∷ xs) none zero = refl
-none_held (false ∷ xs) none (suc p) = none_held xs none p
-none_held (true ∷ xs) none p = absurd (true≢false none)
 
 module _ {X : Type 0} where
   -- what stands in it is the new one, or an old one from elsewhere
@@ -97,14 +90,3 @@ module _ {X : Type 0} where
       at (inl passes) later = let here : Some y ≡ Some x = rw passes at is in let same : y ≡ x =
           cc in (0, here, sym (ap p same) ∙ passes)
       at (inr fails) later = let w = later (rw fails at is) in (suc w.0, w.1, w.2)
-
--- a list of flags has none set exactly if each place has it unset
-any-none : (bs : List Bool) → ((p : ℕ) → get_or bs p false ≡ false) → list_any (λ b. b) bs ≡ false
-any-none [] unset = refl
-any-none (true ∷ bs) unset = absurd (let first : true ≡ false = unset 0 in cc)
-any-none (false ∷ bs) unset = any-none bs (λ p. unset (suc p))
-
-pub none-set : (any : Bool) (bs : List Bool) → any ≡ list_any (λ b. b) bs → IsTrue (not any)
-    ↔ ((p : ℕ) → get_or bs p false ≡ false)
-none-set true bs is = (λ t. absurd cc, λ unset. absurd (let none = any-none bs unset in cc))
-none-set false bs is = (λ t. none_held bs (sym is), λ unset. refl)

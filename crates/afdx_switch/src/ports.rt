@@ -1,17 +1,17 @@
 //! Sets of output ports.
 
-ghost use Rattle.std.specs.Prelude.{◌≡◌, ◌↔◌, ℕ, ◌≤◌, ◌⊎◌, false, true, IsTrue, slice_index_or};
-ghost use Rattle.std.specs.List.{list_any};
-ghost use Rattle.std.specs.Prelude.{◌==◌};
+ghost use Rattle.std.specs.Prelude.{◌≡◌, ◌==◌, ◌↔◌, ℕ, ◌≤◌, ◌⊎◌, false, true, IsTrue};
+ghost use Rattle.std.specs.Int.{bit_at};
 ghost use Rattle.afdx_frame.specs.Ports.{last_port};
+
+use afdx_frame::LAST_PORT;
 
 /// A set of the ports 1 to 24 of a switch.
 #[derive(Clone, Copy, Debug, PartialEq, Eq)]
 pub struct PortSet {
-    /// By number; there is no port 0.
-    ports: [bool; 25],
-    ghost in_range: { (p : ℕ) → slice_index_or ports p false ≡ true →
-        (1 ≤ p) × (p ≤ last_port) },
+    /// A bit for each port, at its number; there is no port 0.
+    ports: u32,
+    ghost in_range: { (p : ℕ) → (bit_at ports p == 1) ≡ true → (1 ≤ p) × (p ≤ last_port) },
 }
 
 impl PortSet {
@@ -20,7 +20,7 @@ impl PortSet {
     pub(crate) fn new() -> PortSet
         ensures { (p : ℕ) → holds result p ≡ false }
     {
-        PortSet { ports: [false; 25] }
+        PortSet { ports: 0 }
     }
 
     pub(crate) fn add(&mut self, port: u8)
@@ -29,7 +29,7 @@ impl PortSet {
         ensures added { holds self.new port ≡ true }
         ensures others { (p : ℕ) → (p ≡ port) ⊎ (holds self.new p ≡ holds self.old p) }
     {
-        self.ports[port as usize] = true;
+        self.ports |= 1 << port;
     }
 
     /// Whether the port is one of them. A number that is no port's, 0 or over 24, never is.
@@ -37,10 +37,7 @@ impl PortSet {
         ensures held { result ≡ holds self.now port }
         ensures ports_alone { IsTrue result → (1 ≤ port) × (port ≤ last_port) }
     {
-        match self.ports.get(port as usize) {
-            Some(held) => *held,
-            None => false,
-        }
+        port <= LAST_PORT && (self.ports >> port) & 1 == 1
     }
 
     /// Whether no port is.
@@ -49,17 +46,6 @@ impl PortSet {
         ensures no_port { IsTrue result
             ↔ ((p : ℕ) → 1 ≤ p → p ≤ last_port → holds self.now p ≡ false) }
     {
-        !any_held(self.ports.as_slice())
+        self.ports == 0
     }
-}
-
-/// Whether one of them is true. All are looked at, which takes a few steps over many at once.
-fn any_held(held: &[bool]) -> bool
-    ensures { result ≡ list_any (λ h. h) held.now }
-{
-    let mut any = false;
-    for one in held {
-        any |= *one;
-    }
-    any
 }
