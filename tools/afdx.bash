@@ -240,10 +240,10 @@ _afdx_takes() { # COMMAND : its options, and those that take a value
             options=(--help --version --out --no-admission --link --from --rows --worst --compare \
                 --title --cover --json --interface --taps --fcs --origin --reorder --stamps \
                 --fail-on --junit --conform --slack --between --drift --inner --asked --until \
-                --leave-out --switch --left --lossy --exercised)
+                --leave-out --switch --left --lossy --exercised --senders --apart)
             valued=(--out --link --from --rows --worst --compare --title --cover --interface \
                 --taps --fcs --origin --reorder --stamps --fail-on --junit --slack --between \
-                --drift --inner --asked --until --leave-out --switch --left)
+                --drift --inner --asked --until --leave-out --switch --left --apart)
             ;;
         'afdx-taps')
             options=(--help --version --anyway --conform --senders --switch)

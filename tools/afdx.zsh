@@ -272,6 +272,8 @@ _afdx_takes() { # COMMAND
             '*--left=[where the frames of interface K left]:k=place:' \
             '--lossy[also where the recorder lost frames]' \
             '--exercised[no verdict where a stream that is judged is idle]' \
+            '--senders[also judge the systems by what they sent]' \
+            '--apart=[by how many ns later a copy may be sent]:ns:' \
             ':config:_files -g "*.toml(-.)"' \
             ':list:_files -g "*.(list|pcap|pcapng)(-.)"' \
             '::list:_files -g "*.(pcap|pcapng)(-.)"'

@@ -257,6 +257,111 @@ stamp_tests() {
     tell 'as far back as it says' "$(is_status 0; says out 'verdict     conforms')"
 }
 
+# One message on both networks at these times, of which the copy on B comes so much later; what came
+# of it left 6,720 ns later.
+sent_and_left() { # TIMES BEHIND
+    local time twin=${one/020000000120/020000000140}
+    for time in $1; do
+        printf 'F %d A 1 %s\nF %d B 1 %s\n' "$time" "$one" "$((time + $2))" "$twin"
+    done >"$judged/came.list"
+    sed 's/ 1 / 3 /' "$judged/came.list" | awk '{ $2 += 6720; print }' >"$judged/left.list"
+}
+
+senders_tests() {
+    local json=$judged/out/report.json sums='r["of_senders"]["totals"]'
+    sent_and_left 0 300
+    judge --senders
+    tell 'a switch and its senders' "$(
+        is_status 0
+        says out 'verdict     conforms'
+        says out 'senders     conforms'
+        says out 'together    No sender left the law. The switch conforms. These are two answers'
+        says out 'Nothing stands in the way of reading them together'
+        wants_number "$json" "$sums['sent'], $sums['alone']" '(2, 0)'
+        wants_number "$json" '[s["sent"] for s in r["senders"]]' '[2, 0]'
+        wants_number "$json" '{p["holds"] for p in r["premises"]}' "{'yes'}"
+        wants_page "$judged/out/report.html"
+    )"
+    sent_and_left '0 499999' 988781
+    grep ' A ' "$judged/came.list" | sed 's/ 1 / 2 /; s/499999/999999/' >>"$judged/came.list"
+    sort -k 2,2n -o "$judged/came.list" "$judged/came.list"
+    sort -k 2,2n -o "$judged/left.list" "$judged/left.list"
+    printf 'title = "Bench 7"\n' >"$judged/cover.toml"
+    judge --senders --slack 10 --junit "$judged/junit.xml" --cover "$judged/cover.toml"
+    tell 'senders that left the law' "$(
+        is_status 5
+        says out 'finding     number: line 3 at 499999 ns, link 1, port 1 (s1) of A: 1 was next'
+        says out 'finding     unlawful: line 2 at 0 ns, link 1, port 2 (s2) of A: not-its-link'
+        says out 'finding     apart: line 4 at 988781 ns, link 1, port 1 (s1) of B, by 21 ns'
+        says out 'together    Senders left the law: '
+        wants_number "$json" "sum(s['sent'] for s in r['senders']) - $sums['sent']" 0
+        wants_number "$json" '[(s["link"], s["system"]) for s in r["senders"] if s["amiss"]]' \
+            "[(1, 's1'), (1, 's2')]"
+        wants_number "$json" '[s["reasons"] for s in r["senders"] if s["reasons"]]' \
+            "[{'not-its-link': 2}]"
+        wants_cases "$judged/junit.xml" '3 0 1'
+        grep -qF '<caption>Answers</caption>' "$judged/out/report.html" || echo 'no answers'
+        wants_page "$judged/out/report.html"
+        "$python" tests/tools/html_tags.py "$judged/out/report.html"
+    )"
+    sent_and_left 0 0
+    judge
+    tell 'nothing is said of senders where nobody asks' "$(
+        is_status 0
+        wants_number "$json" '[name for name in r if "sender" in name or name == "premises"]' '[]'
+        if grep -qi sender "$judged/out/report.html" "$work/out"; then echo 'it says something'; fi
+        if [[ -e $judged/out/senders.csv ]]; then echo 'a table of an older report stays'; fi
+    )"
+    echo 'F 0 A' >>"$judged/left.list"
+    judge --senders
+    tell 'senders beside a list with a fault' "$(
+        is_status 3
+        says out 'senders     conforms'
+        says out 'There is no verdict on the switch: list left BadLine 3.'
+        wants_number "$json" 'r["senders"]' '[]'
+    )"
+    judge --apart 1
+    tell 'a distance of copies without senders' "$(is_status 2; says err 'with --senders only')"
+    launch tools/afdx-report --senders examples/base.toml examples/one_link.list
+    tell 'senders of a replay' "$(is_status 2; says err '--senders is an option with --conform')"
+}
+
+# Recorded are what came in on A and on B, and what left on A, at first a frame that nobody sent.
+recorded_senders_tests() {
+    local json=$judged/out/report.json side
+    local places=(--interface 0=A:1 --interface 1=B:1 --left 2=A:3)
+    sent_and_left '1000000 3000000' 300
+    for side in A B; do grep " $side " "$judged/came.list" >"$judged/$side.list"; done
+    { echo "F 0 A 3 $one"; grep ' A ' "$judged/left.list"; } >"$judged/out.list"
+    for side in A B out; do
+        launch tools/afdx-capture pcap --fcs no "$judged/$side.list" "$judged/$side.pcap"
+    done
+    mergecap -I none -w "$judged/run.pcapng" "$judged"/{A,B,out}.pcap
+    judge_recorded --senders "${places[@]}" --from 500000 --until 2500000 -- "$judged/run.pcapng"
+    tell 'recorded senders, with times that count from what left first' "$(
+        is_status 0
+        says out 'senders     conforms'
+        says out 'No more follows from them, since this isn'
+        wants_number "$json" 'r["totals"]["explained"], r["of_senders"]["totals"]["sent"]' '(1, 2)'
+        wants_number "$json" '[p["found"] for p in r["premises"] if p["holds"] == "no"]' \
+            "['unseen 3', 'alone 1', '--from 500000']"
+    )"
+    printf 'interface,side,port,direction\n#0,A,1,in\n#1,B,1,in\n#2,A,3,out\n' >"$judged/taps.csv"
+    judge_recorded --senders --taps "$judged/taps.csv" --from 500000 -- "$judged/run.pcapng"
+    tell 'a finding of a recorded sender has its interface and stamp' "$(
+        is_status 5
+        says out 'finding     number: frame 6 at 3000300 ns, link 1, port 1 (s1) of B: 1 was next'
+        wants_number "$json" '[(d["line"], d["interface"], d["stamp"][-18:])
+            for d in r["sender_deviations"] if d["side"] == "B"]' "[(6, 1, '00:00:00.003000300')]"
+    )"
+    judge_recorded --senders --interface 0=A:1 --left 0=A:3 --from 500000 -- "$judged/A.pcap" \
+        "$judged/out.pcap"
+    tell 'senders of one of two recordings' "$(
+        is_status 5
+        wants_number "$json" '[s["networks"] for s in r["senders"]]' "['A']"
+    )"
+}
+
 refused_words() {
     came_and_left 0 6720
     judge --origin 0
@@ -275,11 +380,17 @@ if [[ -z $reporting ]]; then
 elif "$program" conform --help >"$judged/help" 2>&1; then
     conformance_tests
     telling_tests
+    if grep -qF -- --senders "$judged/help"; then
+        senders_tests
+    else
+        skip 'afdx-report --conform --senders' 'conform judges no senders'
+    fi
     if ! grep -qF -- --left "$judged/help"; then
         skip 'afdx-report --conform on recordings' 'conform takes no recordings'
     elif [[ -n $dpkt ]] && has mergecap; then
         recording_tests
         stamp_tests
+        if grep -qF -- --senders "$judged/help"; then recorded_senders_tests; fi
     else
         skip 'afdx-report --conform on recordings' 'there is no package dpkt, or no mergecap'
     fi

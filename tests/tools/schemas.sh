@@ -54,8 +54,10 @@ report_schema_tests() {
     printf 'F %d A 3 %s\n' 6720 "$frame" 506719 "$frame" >"$work/wrong.list"
     launch tools/afdx-report --conform examples/base.toml $list "$work/wrong.list" \
         --out "$work/judged"
+    launch tools/afdx-report --conform --senders examples/base.toml $list "$work/wrong.list" \
+        --out "$work/senders"
     tell 'report.json is as its schema says' "$(
-        against docs/report.schema.json "$work"/{one,two,several,judged}/report.json
+        against docs/report.schema.json "$work"/{one,two,several,judged,senders}/report.json
     )"
     tell 'its version and its findings are values' "$(
         wants_number "$work/one/report.json" 'r["version"]' 1

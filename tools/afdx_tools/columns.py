@@ -42,6 +42,10 @@ COLUMNS = {
                "margin_ns configured_ns share",
     "deviations": "what list line time_ns link side port system reason by_ns by_numbers",
     "groups": "findings what reason link side port system first_line by_ns words",
+    "senders": "link system switch port networks frames sent amiss unlawful number soon soon_by_ns "
+               "differs apart apart_by_ns single reasons",
+    "sender_deviations": "what line time_ns link side port system reason by_ns wanted",
+    "premises": "premise found holds",
     "idle": "link from switch port system side came",
     "options": "option value given reason",
     "stamps": "side port way frames step_ns nearest_ns bunched_ns",
@@ -54,6 +58,7 @@ STAMPS = {
     "frames": "interface stamp",
     "troubles": "interface stamp",
     "deviations": "interface name stamp",
+    "sender_deviations": "interface name stamp",
 }
 RECORDED = ("where", "unseen")  # the tables that reports on recordings have alone
 SWITCH = "switch"  # of several switches a side which one a port is at

@@ -17,7 +17,8 @@ KIND = re.compile(
 )  # fmt: skip
 # and that of a line about a frame that a system sent
 SENT = re.compile(
-    r"^(?P<word>[a-z]+) n side port(?: (?:WORD|NS|Q))?: the system at that port sent frame n\b",
+    r"^(?P<word>[a-z]+) n side port(?: (?P<more>WORD|NS|Q))?: "
+    r"the system at that port sent frame n\b",
     re.M,
 )  # fmt: skip
 
@@ -67,9 +68,10 @@ def kinds() -> dict[str, Kind]:
 
 
 @functools.cache
-def of_senders() -> tuple[str, ...]:
-    """The words of lines of `conform` about frames that systems sent."""
-    return tuple(each["word"] for each in SENT.finditer(listed()))
+def of_senders() -> dict[str, str]:
+    """The words of lines of `conform` about frames that systems sent, and what stands behind the
+    place: WORD, NS, Q or nothing."""
+    return {each["word"]: each["more"] or "" for each in SENT.finditer(listed())}
 
 
 def counts_of(words: Sequence[str]) -> dict[str, int]:

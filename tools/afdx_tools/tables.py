@@ -60,6 +60,7 @@ WRITTEN |= {"arrivals.csv", "early.csv", "compared.csv"}
 WRITTEN |= {"troubles.csv", "where.csv"}
 WRITTEN |= {"streams.csv", "deviations.csv", "unseen.csv"}  # of a recorded switch
 WRITTEN |= {"groups.csv", "idle.csv", "options.csv", "stamps.csv", "offsets.csv"}
+WRITTEN |= {"senders.csv", "sender_deviations.csv", "premises.csv"}  # and of its senders
 WRITTEN |= {"report.json", "report.html"}  # what a folder may have of an earlier report
 
 

@@ -11,7 +11,8 @@ and links of recordings are those that `afdx list` writes. The exit status is
 that of the program; with --fail-on it is 6 where the program's is 0 and a
 criterion isn't met. With --conform it reports on a recorded switch: it runs
 `afdx conform CONFIG RECORDING`, or `afdx conform CONFIG CAME LEFT` of two
-recordings or lists, and measures how long frames were inside.
+recordings or lists, and measures how long frames were inside; with --senders
+also `afdx conform --senders`, of what came.
 """
 from __future__ import annotations
 
@@ -23,6 +24,7 @@ from afdx_tools.command_line import parser_of, whole
 from afdx_tools.conformance.options import (
     BY_ROLE,
     add_conform_words,
+    add_sender_words,
     conform_options,
     refuse_conform_options,
 )
@@ -67,6 +69,7 @@ def words() -> argparse.ArgumentParser:
     add_recording_words(parser, BY_ROLE)
     add_words(parser)
     add_conform_words(parser)
+    add_sender_words(parser)
     return parser
 
 

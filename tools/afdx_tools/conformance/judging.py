@@ -4,15 +4,29 @@ from __future__ import annotations
 import re
 import subprocess
 from dataclasses import dataclass, field
-from typing import Iterable, NamedTuple, Sequence
+from typing import Iterable, NamedTuple, Protocol, Sequence
 
 from afdx_tools.faults import Failed, shown
-from afdx_tools.known import counts_of, kinds
+from afdx_tools.known import counts_of, kinds, of_senders
 from afdx_tools.program import program
+from afdx_tools.recordings.tapped import SENDERS
 
 SKIPPED = "skipped "  # how the line of what was skipped begins
+APART = "apart "  # and that of what the tables leave for a link's copies
 FINDING = re.compile(r"(?P<word>[a-z]+) (?P<n>[0-9]+) (?P<side>[AB]) (?P<port>[0-9]+)"
                      r"(?: (?P<more>[a-z0-9-]+))?")  # fmt: skip
+
+
+class Line(Protocol):
+    """A line about a frame of what came, or of what left: its line there."""
+
+    @property
+    def number(self) -> int:
+        """The line of CAME, or of LEFT."""
+
+    @property
+    def is_left(self) -> bool:
+        """It names a frame that left."""
 
 
 class Deviation(NamedTuple):
@@ -32,6 +46,32 @@ class Deviation(NamedTuple):
         return kinds()[self.word].is_left
 
 
+class Amiss(NamedTuple):
+    """A line of `conform --senders` but the last, about a frame of CAME: `why` is its word, `by`
+    its ns, and `wanted` the sequence number that the frame should have had."""
+
+    word: str
+    number: int
+    side: str
+    port: int
+    why: str = ""
+    by: int | None = None
+    wanted: int | None = None
+
+    @property
+    def is_left(self) -> bool:
+        """It names a frame that came."""
+        return False
+
+
+class Said(NamedTuple):
+    """What a run wrote, line by line; the line of its fault, and its status."""
+
+    lines: list[str]
+    fault: str
+    status: int
+
+
 @dataclass
 class Judged:
     """What `conform` wrote: its lines; its last one as verdict and counts, which are missing where
@@ -42,6 +82,18 @@ class Judged:
     verdict: str = ""
     counts: dict[str, int] = field(default_factory=dict)
     skipped: list[dict[str, int]] = field(default_factory=list)
+    fault: str = ""
+    status: int = 0
+
+
+@dataclass
+class Sent:
+    """What `conform --senders` wrote: its lines, its last one as verdict and counts, which are
+    missing where a fault ended it; that fault, and the status."""
+
+    amiss: list[Amiss] = field(default_factory=list)
+    verdict: str = ""
+    counts: dict[str, int] = field(default_factory=dict)
     fault: str = ""
     status: int = 0
 
@@ -59,6 +111,27 @@ def deviation_of(line: str) -> Deviation | None:
     return Deviation(found["word"], number, found["side"], port, why, by)
 
 
+def amiss_of(line: str) -> Amiss | None:
+    """A line as a finding of a sender; None where it is another."""
+    found = FINDING.fullmatch(line)
+    if found is None or found["word"] not in of_senders():
+        return None
+    kind, more = of_senders()[found["word"]], found["more"] or ""
+    number, port = int(found["n"]), int(found["port"])
+    return Amiss(
+        found["word"], number, found["side"], port,
+        why=more if kind == "WORD" else "",
+        by=int(more) if kind == "NS" else None,
+        wanted=int(more) if kind == "Q" else None,
+    )  # fmt: skip
+
+
+def last_of(line: str) -> tuple[str, dict[str, int]]:
+    """A last line as its verdict and its counts."""
+    verdict, _, counts = line.partition(" explained ")
+    return shown(verdict), counts_of(["explained", *counts.split()])
+
+
 def judged_of(lines: Iterable[str]) -> Judged:
     """Reads what `conform` wrote."""
     judged = Judged()
@@ -69,23 +142,31 @@ def judged_of(lines: Iterable[str]) -> Judged:
         elif line.startswith(SKIPPED):
             judged.skipped.append(counts_of(line.split()[1:]))
         else:
-            verdict, _, counts = line.partition(" explained ")
-            judged.verdict = shown(verdict)
-            judged.counts = counts_of(["explained", *counts.split()])
+            judged.verdict, judged.counts = last_of(line)
     return judged
 
 
-def has_conform() -> bool:
-    """The program has the command."""
+def sent_of(lines: Iterable[str]) -> Sent:
+    """Reads what `conform --senders` wrote."""
+    sent = Sent()
+    for line in lines:
+        amiss = amiss_of(line)
+        if amiss:
+            sent.amiss.append(amiss)
+        else:
+            sent.verdict, sent.counts = last_of(line)
+    return sent
+
+
+def help_of() -> str:
+    """What the program says of its command; nothing where it hasn't that one."""
     run = subprocess.run([program(), "conform", "--help"], capture_output=True, check=False,
                          stdin=subprocess.DEVNULL)  # fmt: skip
-    return run.returncode == 0
+    return "" if run.returncode else run.stdout.decode(errors="replace")
 
 
-def judge(words: Sequence[str]) -> Judged:
-    """What the program says with these words; Failed where that isn't even a verdict."""
-    if not has_conform():
-        raise Failed("this program has no conform", 2)
+def said_by(words: Sequence[str]) -> Said:
+    """What the program says with these words; Failed where that can't be a verdict."""
     run = subprocess.run(
         [program(), "conform", *words],
         stdin=subprocess.DEVNULL,
@@ -96,10 +177,42 @@ def judge(words: Sequence[str]) -> Judged:
     )
     fault = shown(run.stderr.strip())
     status = run.returncode if run.returncode >= 0 else 128 - run.returncode
-    judged = judged_of(run.stdout.splitlines())
-    if not judged.verdict and not fault:
-        fault = f"the program ended with status {status}"
     if status in (1, 2, 4):
-        raise Failed(fault, status)
-    judged.fault, judged.status = fault, status
+        raise Failed(fault or f"the program ended with status {status}", status)
+    return Said(run.stdout.splitlines(), fault, status)
+
+
+def judge(words: Sequence[str]) -> Judged:
+    """What the program says with these words of a switch; Failed where that isn't even a
+    verdict."""
+    if not help_of():
+        raise Failed("this program has no conform", 2)
+    said = said_by(words)
+    judged = judged_of(said.lines)
+    judged.fault, judged.status = fault_of(said, judged.verdict), said.status
     return judged
+
+
+def judge_senders(words: Sequence[str]) -> Sent:
+    """What it says of the systems that sent what came."""
+    if SENDERS not in help_of():
+        raise Failed("this program's conform judges no senders", 2)
+    said = said_by([SENDERS, *words])
+    sent = sent_of(said.lines)
+    sent.fault, sent.status = fault_of(said, sent.verdict), said.status
+    return sent
+
+
+def fault_of(said: Said, verdict: str) -> str:
+    """What ended a run; nothing where it has a verdict."""
+    return said.fault or ("" if verdict else f"the program ended with status {said.status}")
+
+
+def least_apart(config: str) -> int | None:
+    """By how many ns later one copy of a frame may be sent than the other, of all links the least
+    that the tables leave; None where the program doesn't say it."""
+    run = subprocess.run([program(), "check", "--margins", config], capture_output=True,
+                         check=False, stdin=subprocess.DEVNULL, encoding="utf-8",
+                         errors="replace")  # fmt: skip
+    found = [line.split() for line in run.stdout.splitlines() if line.startswith(APART)]
+    return min((int(words[-1]) for words in found if words[-1] != "-"), default=None)

@@ -7,7 +7,7 @@ from typing import Iterable, Iterator, NamedTuple, Sequence
 
 from afdx_tools.config import MOST_PORTS, Config, Link
 from afdx_tools.conformance.frames import Frame
-from afdx_tools.conformance.judging import Deviation
+from afdx_tools.conformance.judging import Line
 from afdx_tools.conformance.options import Options
 from afdx_tools.conformance.recorded import Taps
 
@@ -49,7 +49,7 @@ class Named(NamedTuple):
     vl: int | None
 
 
-def numbers_in(found: Sequence[Deviation]) -> dict[bool, set[int]]:
+def numbers_in(found: Sequence[Line]) -> dict[bool, set[int]]:
     """The frames that findings name, of those that came and of those that left."""
     return {is_left: {each.number for each in found if each.is_left == is_left}
             for is_left in (False, True)}  # fmt: skip
@@ -66,10 +66,10 @@ class Measured:
         options: Options,
         came: Iterable[Frame],
         left: Iterable[Frame],
-        found: Sequence[Deviation],
+        found: Sequence[Line],
         taps: Taps = Taps(),
     ) -> None:
-        self.options, self.taps = options, taps
+        self.config, self.options, self.taps = config, options, taps
         self.first, self.links = links_at(config, options.switch)
         self.latest = 0  # the time of the last frame of all
         self.by_port = config.by_port()

@@ -2,7 +2,7 @@
 from __future__ import annotations
 
 from collections import Counter
-from typing import Sequence
+from typing import Mapping, Sequence
 
 from afdx_tools.config import Config
 from afdx_tools.conformance.grouping import firsts
@@ -137,18 +137,8 @@ class Numbers:
             "reason": each.why or None,
             "by_ns": each.by,
             "by_numbers": "",
-            **self.standing(each),
+            **standing_of(self.stood, each.is_left, each.number),
         }
-
-    def standing(self, each: Deviation) -> Row:
-        """Where a recording has the frame that a line names."""
-        if self.stood is None:
-            return {}
-        frame = self.stood.get((each.is_left, each.number))
-        if frame is None:
-            return dict.fromkeys(("interface", "name", "stamp"))
-        name = cut(frame.name, LONGEST_NAME) or None
-        return {"interface": frame.interface, "name": name, "stamp": utc(frame.stamp)}
 
     def place_of(self, stream: Stream) -> Row:
         """A stream as columns of a row."""
@@ -174,6 +164,19 @@ class Numbers:
                 came = len(self.measured.came.get((stream.side, stream.vl), []))
                 rows.append({**self.place_of(stream), "came": came})
         return rows
+
+
+def standing_of(
+    stood: Mapping[tuple[bool, int], Stood] | None, is_left: bool, number: int
+) -> Row:
+    """Where a recording has a frame of what came or of what left; nothing of lists."""
+    if stood is None:
+        return {}
+    frame = stood.get((is_left, number))
+    if frame is None:
+        return dict.fromkeys(("interface", "name", "stamp"))
+    name = cut(frame.name, LONGEST_NAME) or None
+    return {"interface": frame.interface, "name": name, "stamp": utc(frame.stamp)}
 
 
 def totals_of(judged: Judged, streams: Sequence[Row], idle: Sequence[Row] = ()) -> Row:

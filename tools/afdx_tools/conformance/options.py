@@ -11,6 +11,9 @@ from afdx_tools.faults import Refused
 from afdx_tools.recordings.options import recording_options
 
 LATEST = 10**15
+MOST_APART = 100_000_000
+LEFT = "--left="  # how a word begins that says where frames left
+OF_SENDERS = ("slack", "drift")  # the amounts that say something of senders
 OTHER = "other"  # frames that name no link
 AMOUNTS = {
     "slack": (1_000_000, "NS", "by how many ns a stamp may be off, with --conform (0)"),
@@ -29,6 +32,15 @@ OF_REPLAYS = {
     "origin": None,
 }
 BY_ROLE = ("start-end", "end-start")  # of --stamps
+
+
+def add_sender_words(parser: argparse.ArgumentParser) -> None:
+    """Teaches a parser --senders, and the option that goes with it."""
+    add = parser.add_argument
+    add("--senders", action="store_true",
+        help="also judge the systems by what they sent, with --conform: a second run of it")
+    add("--apart", type=whole(0, MOST_APART), metavar="NS",
+        help="by how many ns later a copy may be sent, with --senders (what the tables leave)")
 
 
 def vl_or_other(text: str) -> int | None:
@@ -57,7 +69,8 @@ def add_conform_words(parser: argparse.ArgumentParser) -> None:
 
 @dataclass(frozen=True)
 class Options:
-    """The options of `afdx conform`: ns and millionths; None where they aren't given."""
+    """The options of `afdx conform`: ns and millionths; None where they aren't given. With
+    `senders` the systems are judged, too, by a run of its own."""
 
     slack: int | None = None
     between: int | None = None
@@ -72,19 +85,35 @@ class Options:
     of_recordings: tuple[str, ...] = ()
     recorders: Recorders = Recorders()
     reorder: int | None = None
+    senders: bool = False
+    apart: int | None = None
 
     def words(self) -> list[str]:
         """The words that say the same to the program; those of recordings stand apart."""
         amounts = {name: getattr(self, name) for name in AMOUNTS} | {"from": self.start}
         words = [f"--{name}={amount}" for name, amount in amounts.items() if amount is not None]
-        words += [f"--leave-out={OTHER if vl is None else vl}" for vl in self.left_out]
-        words += [] if self.switch is None else [f"--switch={self.switch}"]
-        return words + ["--exercised"] * self.exercised
+        return words + self.passing_over() + ["--exercised"] * self.exercised
+
+    def words_of_senders(self, later: int) -> list[str]:
+        """The words that judge the senders, by what came alone, whose first frame came so many ns
+        behind time 0."""
+        amounts = {name: getattr(self, name) for name in (*OF_SENDERS, "apart")}
+        times = {"from": self.start, "until": self.until}
+        amounts |= {name: None if time is None else max(0, time - later)
+                    for name, time in times.items()}  # fmt: skip
+        words = [f"--{name}={amount}" for name, amount in amounts.items() if amount is not None]
+        words += self.passing_over()
+        return words + [word for word in self.of_recordings if not word.startswith(LEFT)]
+
+    def passing_over(self) -> list[str]:
+        """The words for links that aren't judged, and for the switch that is."""
+        words = [f"--leave-out={OTHER if vl is None else vl}" for vl in self.left_out]
+        return words + ([] if self.switch is None else [f"--switch={self.switch}"])
 
     def tapped(self, words: Sequence[str]) -> Options:
         """The same, with the words of interfaces that a table of taps says."""
         came, left = (tuple(word.removeprefix(name) for word in words if word.startswith(name))
-                      for name in ("--interface=", "--left="))
+                      for name in ("--interface=", LEFT))
         return replace(self, of_recordings=(*words, *self.of_recordings),
                        recorders=replace(self.recorders, came=came, left=left))  # fmt: skip
 
@@ -111,7 +140,9 @@ def conform_options(
     amounts = {name: getattr(args, name) for name in AMOUNTS}
     if args.taps is not None and args.left:
         raise Refused("--taps and --left say the same: give one of them")
-    words = recording_options(args) + [f"--left={each}" for each in args.left]
+    if getattr(args, "apart", None) is not None and not args.senders:
+        raise Refused("--apart is an option with --senders only")
+    words = recording_options(args) + [f"{LEFT}{each}" for each in args.left]
     fcs = None if args.fcs is None else args.fcs == "yes"
     reorder = None if args.reorder is None else int(args.reorder)
     return Options(
@@ -123,6 +154,8 @@ def conform_options(
         of_recordings=(*words, *["--lossy"] * args.lossy),
         recorders=Recorders(tuple(args.interface), tuple(args.left), fcs, args.stamps or "end"),
         reorder=reorder,
+        senders=getattr(args, "senders", False),
+        apart=getattr(args, "apart", None),
     )
 
 
@@ -132,6 +165,8 @@ def refuse_conform_options(args: argparse.Namespace) -> None:
     given += ["leave-out"] * bool(args.leave_out) + ["switch"] * (args.switch is not None)
     given += ["left"] * bool(args.left) + ["lossy"] * args.lossy
     given += ["exercised"] * args.exercised
+    given += ["senders"] * getattr(args, "senders", False)
+    given += ["apart"] * (getattr(args, "apart", None) is not None)
     if args.stamps in BY_ROLE:
         given.append(f"stamps {args.stamps}")
     if given:

@@ -4,7 +4,8 @@ from __future__ import annotations
 from html import escape
 
 from afdx_tools.conformance.numbers import account_words, no_verdict
-from afdx_tools.known import findings
+from afdx_tools.conformance.together import answers_table, said_of_both
+from afdx_tools.known import findings, of_senders
 from afdx_tools.report import figures
 from afdx_tools.report.findings import left_words
 from afdx_tools.report.head import badge
@@ -26,6 +27,9 @@ TABLES = {
     "groups": "Findings by link, port and kind: how many, and the first line that each names",
     "deviations": "Findings: the lines of the program, with the frame that each names",
     "streams": "Links, ports and sides: what came, left, was found, and latency as measured, in ns",
+    "premises": "What both answers together ask for, and what is so",
+    "senders": "Links and the systems that send them: frames on both networks, and what was found",
+    "sender_deviations": "Findings of senders: the lines of the program, with the frame of each",
     "options": "Options that the stamps ask for, at the least, and what was measured",
     "idle": "Links, ports and sides that are judged, and of which no frame is explained",
     "unseen": "Links, ports and sides that aren't judged, and what wasn't recorded of them",
@@ -44,6 +48,13 @@ COUNTED = (
     "say; which links were idle; and the options that the stamps ask for. A frame of which the "
     "program found nothing may be paired with another one of equal bytes."
 )
+PROVED_OF_SENDERS = (
+    "Of senders their verdict, its counts and each line are lines of the proved program, too, in a "
+    "run of its own: `conforms` says that nothing was found of what systems sent. What both runs "
+    "say together is put beside one another by this report, and proves nothing more; how many "
+    "frames of each source have no line is counted by it."
+)
+CARDS_OF_SENDERS = {"sent": "sent", "cut": "copies cut", "alone": "links alone"}
 CARDS = {
     "explained": "explained",
     "open": "open",
@@ -71,9 +82,18 @@ def answer(report: Row) -> str:
         if report["idle"]:
             words += f" Of {len(report['idle'])} that were no frame is explained: they were idle."
         parts.append(f'<span class="muted">{escape(words)}</span>')
+    if "of_senders" in report:
+        parts.insert(1, badge_of_senders(report["of_senders"]))
     if report["admission"] != "ok":
         parts.append(badge(f"not admitted: {report['admission']}", "bad"))
-    return f'<p class="answers">{"".join(parts)}</p>'
+    return f'<p class="answers">{"".join(parts)}</p>{said_of_both(report)}'
+
+
+def badge_of_senders(told: Row) -> str:
+    """The verdict on the senders, or the fault that was in its way."""
+    if told["fault"]:
+        return badge(f"the run of senders ended with: {told['fault']}", "bad")
+    return badge(f"senders: {told['verdict']}", "bad" if told["status"] else "good")
 
 
 def picture(report: Row, most: int) -> str:
@@ -118,15 +138,30 @@ def words_of(report: Row) -> str:
     return words
 
 
+def cards_of_senders(report: Row) -> list[tuple[str, int, bool]]:
+    """The sums of the senders, and whether each is bad; none where they weren't judged."""
+    totals = report.get("of_senders", {}).get("totals", {})
+    cards = [(words, totals[key], False) for key, words in CARDS_OF_SENDERS.items()
+             if key in totals]  # fmt: skip
+    return cards + [(word, totals[word], True) for word in of_senders() if word in totals]
+
+
+def proved_of_senders(report: Row) -> list[str]:
+    """What is proved of the senders, where they were judged."""
+    return [PROVED_OF_SENDERS] if "of_senders" in report else []
+
+
 def page(report: Row, most: int) -> str:
     """The whole page, with so many links in its picture."""
     totals = report["totals"]
     names = {"picture": "latency", "groups": "findings by kind", "deviations": "findings"}
     names |= {"streams": "table of streams", "options": "options", "idle": "what was idle"}
     names |= {"unseen": "what isn't judged"} if "unseen" in report else {}
+    names |= {"senders": "senders"} if "of_senders" in report else {}
     names |= {"stamps": "stamps", "made": "what made it"}
     cards = [(words, totals[key], False) for key, words in CARDS.items() if key in totals]
     cards += [(word, totals[word], True) for word in findings()]
+    cards += cards_of_senders(report)
     parts = [
         answer(report),
         links_of(names),
@@ -135,4 +170,5 @@ def page(report: Row, most: int) -> str:
         tables(report),
     ]  # fmt: skip
     title = f"AFDX conformance: {report['run']['title']}"
-    return whole_page(title, words_of(report), report, parts, (PROVED, COUNTED))
+    foot = (PROVED, *proved_of_senders(report), COUNTED)
+    return whole_page(title, words_of(report), report, parts, foot, answers_table(report))

@@ -7,7 +7,7 @@ from __future__ import annotations
 
 from bisect import bisect_right
 from dataclasses import dataclass, field
-from typing import Iterator, NamedTuple, Sequence
+from typing import Container, Iterator, Mapping, NamedTuple, Sequence
 
 from afdx_tools.config import Config
 from afdx_tools.conformance.frames import Frame, frame_of, vl_of
@@ -159,10 +159,11 @@ def on_wire(frame: Recording_frame, has_check_sequence: bool) -> bytes:
 
 
 class Reading:
-    """Reads recordings, and puts what came and what left in order."""
+    """Reads recordings, and puts what came and what left in order. `wanted` are the numbers of
+    frames of which it is kept where they stand, of those that came and of those that left."""
 
     def __init__(
-        self, recorders: Recorders, ends: Ends, wanted: dict[bool, set[int]]
+        self, recorders: Recorders, ends: Ends, wanted: Mapping[bool, Container[int]]
     ) -> None:
         self.recorders, self.ends, self.wanted = recorders, ends, wanted
         self.found = Recorded()

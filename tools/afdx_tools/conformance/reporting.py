@@ -7,21 +7,24 @@ import contextlib
 import json
 import os
 import sys
-from typing import Collection, Iterable, Iterator, NamedTuple
+from typing import Collection, Container, Iterable, Iterator, Mapping, NamedTuple, Sequence
 from xml.etree import ElementTree as xml
 
 from afdx_tools.columns import BEHIND_LINK, SWITCH, columns_of
 from afdx_tools.config import Config, read_config
 from afdx_tools.conformance.frames import Frame, frames_of_list
 from afdx_tools.conformance.grouping import groups, left_twice
-from afdx_tools.conformance.judging import Judged, judge
+from afdx_tools.conformance.judging import Judged, Line, Sent, judge, judge_senders, least_apart
 from afdx_tools.conformance.measuring import Measured, links_at, numbers_in
 from afdx_tools.conformance.numbers import Numbers, totals_of
 from afdx_tools.conformance.options import Options
 from afdx_tools.conformance.page import COUNTED, PROVED, TABLES, page
 from afdx_tools.conformance.proposals import Proposals
 from afdx_tools.conformance.recorded import Ends, Reading, Recorded, Taps
+from afdx_tools.conformance.senders import Senders, source_words
+from afdx_tools.conformance.senders import totals_of as totals_of_senders
 from afdx_tools.conformance.text import print_text
+from afdx_tools.conformance.together import premises, sentence, status_of
 from afdx_tools.explaining import explain
 from afdx_tools.faults import Failed, Refused, shown
 from afdx_tools.inputs import as_file, at_hand
@@ -85,22 +88,38 @@ def tapped(
     return options.tapped(found.words)
 
 
+class Every:
+    """All numbers of frames."""
+
+    def __contains__(self, number: object) -> bool:
+        return True
+
+
 def read(
     inputs: Inputs, options: Options, judged: Judged, config: Config
 ) -> tuple[Iterable[Frame], Iterable[Frame], Recorded]:
     """What came and what left, nothing where a fault ended the run; and what recordings say: after
-    a fault only how far back frames stand, if that is the fault."""
+    a fault only how far back frames stand, if that is the fault. Which frames lines about senders
+    name isn't known yet."""
     if judged.fault and not (inputs.are_recorded and judged.fault.startswith(TOO_FAR_BACK)):
         return (), (), Recorded()
     if not inputs.are_recorded:
         came, left = map(frames_of_list, inputs.paths)
         return came, left, Recorded()
     ends = Ends(config, links_at(config, options.switch)[0])
-    reading = Reading(options.recorders, ends, numbers_in(judged.deviations))
+    wanted: Mapping[bool, Container[int]] = numbers_in(judged.deviations)
+    wanted = {**wanted, False: Every()} if options.senders else wanted
+    reading = Reading(options.recorders, ends, wanted)
     recorded = reading.read(inputs.paths)
     if judged.fault:
         return (), (), Recorded(back=recorded.back)
     return recorded.came, recorded.left, recorded
+
+
+def sent_to(inputs: Inputs, options: Options, recorded: Recorded) -> Sent:
+    """What the program says of the systems, by what came alone."""
+    later = recorded.came[0].time if recorded.came else 0
+    return judge_senders([*options.words_of_senders(later), inputs.config, inputs.paths[0]])
 
 
 def made_by(
@@ -145,11 +164,13 @@ def report_of(
     progress.report("measuring")
     config = read_config(inputs.config)
     came, left, recorded = read(inputs, options, judged, config)
+    sent = sent_to(inputs, options, recorded) if options.senders else None
     taps = options.recorders.taps() if inputs.are_recorded else Taps()
-    measured = Measured(config, options, came, left, judged.deviations, taps)
+    found: Sequence[Line] = [*judged.deviations, *(sent.amiss if sent else ())]
+    measured = Measured(config, options, came, left, found, taps)
     stood = recorded.stood if inputs.are_recorded else None
     numbers = Numbers(config, checked, judged, measured, stood)
-    streams, idle, found = numbers.streams(), numbers.idle(), numbers.deviations()
+    streams, idle, deviations = numbers.streams(), numbers.idle(), numbers.deviations()
     return {
         "version": VERSION,
         "run": made_by(args, inputs, options, called, cover, recorded.time_0),
@@ -159,14 +180,38 @@ def report_of(
         "status": judged.status,
         "verdict": judged.verdict,
         "totals": totals_of(judged, streams, idle),
-        "groups": groups(named_rows(found, naming), left_twice(measured)),
-        "deviations": named_rows(found, naming),
+        "groups": groups(named_rows(deviations, naming), left_twice(measured)),
+        "deviations": named_rows(deviations, naming),
         "streams": named_rows(streams, naming),
+        **(of_senders(inputs, options, judged, sent, numbers, naming) if sent else {}),
         **named_rows(Proposals(measured, recorded.resolution, recorded.back).tables(), naming),
         "idle": named_rows(idle, naming),
         **named_rows(of_recordings(inputs, judged, numbers) if inputs.are_recorded else {}, naming),
         "proved": PROVED,
         "counted": COUNTED,
+    }
+
+
+def of_senders(
+    inputs: Inputs, options: Options, judged: Judged, sent: Sent, numbers: Numbers, naming: Naming
+) -> Row:
+    """What a report has where senders were judged, too. After a fault nothing was counted."""
+    senders = Senders(numbers.measured, sent, numbers.stood)
+    sources = [] if judged.fault or sent.fault else senders.sources()
+    least = None if options.apart is None else least_apart(inputs.config)
+    asked = premises(numbers.checked.answer, judged, sent, options, least)
+    return {
+        "of_senders": {
+            "verdict": sent.verdict,
+            "fault": sent.fault,
+            "status": sent.status,
+            "totals": totals_of_senders(sent),
+            "says": sentence(judged, sent, asked),
+            "status_of_both": status_of(judged, sent),
+        },
+        "premises": [premise.row() for premise in asked],
+        "senders": named_rows(sources, naming),
+        "sender_deviations": named_rows(senders.lines(), naming),
     }
 
 
@@ -206,16 +251,22 @@ def write_files(report: Row, known: Collection[str], folder: str, most: int) -> 
 
 
 def suite(name: str, report: Row) -> xml.Element:
-    """The run as a test suite: that it ended without a fault, and that the switch conforms."""
+    """The run as a test suite: that it ended without a fault, and that the switch conforms; where
+    senders were judged, that these do."""
     found = suite_of(name, report["fault"], None, [])
     unlike = report["verdict"] if report["status"] else ""
     why = [group["words"] for group in report["groups"]]
     add_conforms(found, name, not report["fault"], unlike, why)
+    if "of_senders" in report:
+        told = report["of_senders"]
+        unlike = told["verdict"] if told["status"] else ""
+        why = [source_words(row) for row in report["senders"] if row["amiss"]]
+        add_conforms(found, name, not told["fault"], unlike, why, "senders")
     return found
 
 
 def report_conformance(tool: str, args: argparse.Namespace, options: Options) -> int:
-    """Makes the report; the status, which is that of the program."""
+    """Makes the report; the status, which is that of the program, of two runs the worse one."""
     progress = Progress(tool)
     naming = naming_beside(args.config)
     try:
@@ -234,7 +285,9 @@ def report_conformance(tool: str, args: argparse.Namespace, options: Options) ->
         print(json.dumps(report))
     else:
         print_text(report)
-    if report["fault"]:
-        print(f"{tool}: {report['fault']}", file=sys.stderr)
-        explain(report["fault"])
-    return report["status"]
+    of_both: Row = report.get("of_senders", {})
+    for fault in dict.fromkeys([report["fault"], of_both.get("fault", "")]):
+        if fault:
+            print(f"{tool}: {fault}", file=sys.stderr)
+            explain(fault)
+    return of_both.get("status_of_both", report["status"])

@@ -5,8 +5,9 @@ from typing import Iterator
 
 from afdx_tools.conformance.grouping import firsts, of_link
 from afdx_tools.conformance.numbers import account_words, no_verdict
-from afdx_tools.conformance.page import COUNTED, PROVED, TABLES
+from afdx_tools.conformance.page import COUNTED, PROVED, TABLES, proved_of_senders
 from afdx_tools.conformance.proposals import option_words
+from afdx_tools.conformance.senders import source_words
 from afdx_tools.report.ranking import latency_text, nearest
 from afdx_tools.tables import Row, as_text, cell
 
@@ -63,10 +64,42 @@ def head_of(report: Row) -> Iterator[str]:
         most = nearest([row for row in report["streams"] if row["frames"]])
         if most:
             yield f"nearest     {latency_text(most)}"
+    if "of_senders" in report:
+        yield from head_of_senders(report)
     for row in report["options"]:
         yield f"option      {option_words(row)}"
     for name, counts in report.get("skipped", {}).items():
         yield f"skipped     {cell(counts)} in {name}"
+
+
+def amiss_text(row: Row) -> str:
+    """A finding of a sender in words."""
+    words = f"{row['what']}: {'line' if 'stamp' not in row else 'frame'} {row['line']}"
+    words += "" if row["time_ns"] is None else f" at {row['time_ns']} ns"
+    words += f", {of_link(row)}" if of_link(row) else ""
+    words += f", port {row['port']}" + (f" ({row['system']})" if row["system"] else "")
+    words += f" of {row['side']}" + (f": {row['reason']}" if row["reason"] else "")
+    words += f", by {row['by_ns']} ns" if row["by_ns"] is not None else ""
+    return words + (f": {row['wanted']} was next" if row["wanted"] is not None else "")
+
+
+def head_of_senders(report: Row) -> Iterator[str]:
+    """The same of the senders, and what both answers say together."""
+    told, found = report["of_senders"], report["sender_deviations"]
+    yield f"senders     {told['verdict'] or 'none: ' + told['fault']}"
+    for row in (found if len(found) <= MOST_TOLD else firsts(found))[:MOST_TOLD]:
+        yield f"finding     {amiss_text(row)}"
+    if len(found) > MOST_TOLD:
+        amiss = sorted((row for row in report["senders"] if row["amiss"]),
+                       key=lambda row: -row["amiss"])  # fmt: skip
+        for row in amiss[:MOST_TOLD]:
+            yield f"in all      {source_words(row)}"
+        if len(amiss) > MOST_TOLD:
+            yield f"in all      {len(amiss) - MOST_TOLD} sources more, in the table below"
+    if told["verdict"]:
+        for name in ("sent", "cut", "alone"):
+            yield f"{name:11} {told['totals'][name]}"
+    yield f"together    {told['says']}"
 
 
 def print_text(report: Row) -> None:
@@ -77,4 +110,4 @@ def print_text(report: Row) -> None:
     for name, head in TABLES.items():
         if name in report:
             print(f"\n{head}\n{as_text(report[name])}", end="")
-    print(f"\n{PROVED}\n{COUNTED}")
+    print("\n" + "\n".join((PROVED, *proved_of_senders(report), COUNTED)))

@@ -131,10 +131,12 @@ def suite_of(
 
 
 def add_conforms(
-    suite: xml.Element, name: str, has_verdict: bool, unlike: str, why: Sequence[str]
-) -> None:
-    """Adds a case that a recorded switch conforms: `unlike` is its verdict where it doesn't."""
-    case = xml.SubElement(suite, "testcase", classname=shown(name), name="conforms")
+    suite: xml.Element, name: str, has_verdict: bool, unlike: str, why: Sequence[str],
+    what: str = "conforms",
+) -> None:  # fmt: skip
+    """Adds a case that a recorded switch conforms, or what else was judged: `unlike` is its verdict
+    where it doesn't."""
+    case = xml.SubElement(suite, "testcase", classname=shown(name), name=what)
     suite.set("tests", str(int(suite.get("tests", 0)) + 1))
     if not has_verdict:
         xml.SubElement(case, "skipped", message="there is no verdict")

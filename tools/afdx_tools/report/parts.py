@@ -15,7 +15,7 @@ PLAIN = ("link", "port", "number", "line", "first_number", "came_in", "own_port"
 PLACES = ("came_in",)  # ports that the search field finds
 # columns that are empty where nothing is wrong, as those of findings are, and columns with what
 # the tables say beside them
-WRONG = ("late", "silent", "clock", "twice", "alone", "missing", "never")
+WRONG = ("late", "silent", "clock", "twice", "alone", "missing", "never", "amiss")
 LIMITED = (("jitter_ns", "table_jitter_ns"), ("at_receivers_ns", "table_skew_ns"),
            ("skew_ns", "table_skew_ns"))  # fmt: skip
 
@@ -45,7 +45,9 @@ def is_over(row: Row) -> bool:
     for name, table in LIMITED:
         if table in row and (row.get(name) or 0) > row[table]:
             return True
-    return row.get("reason") == "wrong-port" or ("latency_ns" in row and row["share"] > 1)
+    if row.get("reason") == "wrong-port" or row.get("holds") == "no":
+        return True
+    return "latency_ns" in row and row["share"] > 1
 
 
 # ---- which rows ----------------------------------------------------------------------------------

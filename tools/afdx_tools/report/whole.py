@@ -57,10 +57,11 @@ def links_of(names: dict[str, str]) -> str:
 
 
 def whole_page(
-    title: str, words: str, report: Row, parts: Sequence[str], proved: Sequence[str]
-) -> str:
-    """A page that needs nothing beside it: cover, title and words below it, its parts, what made
-    it, what is proved."""
+    title: str, words: str, report: Row, parts: Sequence[str], proved: Sequence[str],
+    answers: str = "",
+) -> str:  # fmt: skip
+    """A page that needs nothing beside it: cover, with a table of answers, title and words below
+    it, its parts, what made it, what is proved."""
     run, cover = report["run"], report["cover"]
     foot = "".join(f"<p>{escape(each)}</p>" for each in proved)
     return "".join([
@@ -69,7 +70,7 @@ def whole_page(
         "<meta name='viewport' content='width=device-width, initial-scale=1'>",
         f"<title>{escape(title)}</title><style>{STYLE}{sheet_style(run)}</style></head>",
         "<body><main>",
-        cover_section(cover, made_table(run)),
+        cover_section(cover, answers + made_table(run)),
         f"<header><h1>{escape(title)}</h1><p>{escape(words)}</p></header>",
         *parts,
         "" if cover else made_section(run),
