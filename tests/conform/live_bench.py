@@ -22,7 +22,7 @@ import struct
 import subprocess
 import sys
 import time
-from typing import Callable, Counter, Iterator
+from typing import Callable, Counter, Iterable, Iterator, Sequence
 
 sys.dont_write_bytecode = True
 HERE = os.path.dirname(os.path.abspath(__file__))
@@ -46,17 +46,24 @@ def say(*words: str) -> None:
     subprocess.run(words, check=True, stdin=subprocess.DEVNULL, stdout=subprocess.DEVNULL)
 
 
-def lay_cables() -> None:
-    """The cables, over which nothing goes of the machine's own."""
+def lay_cables(ends: Iterable[object]) -> None:
+    """A cable for each of these ends, over which nothing goes of the machine's own."""
     for name in ("all", "default"):
         path = f"/proc/sys/net/ipv6/conf/{name}/disable_ipv6"
         if os.path.exists(path):
             with open(path, "w", encoding="ascii") as file:
                 file.write("1")
-    for port in PORTS:
-        say("ip", "link", "add", f"p{port}", "type", "veth", "peer", "name", f"s{port}")
-        for name in (f"p{port}", f"s{port}"):
+    for end in ends:
+        say("ip", "link", "add", f"p{end}", "type", "veth", "peer", "name", f"s{end}")
+        for name in (f"p{end}", f"s{end}"):
             say("ip", "link", "set", name, "arp", "off", "promisc", "on", "up")
+
+
+def go_first() -> None:
+    """A busy machine doesn't make this process wait, where it may say so."""
+    with contextlib.suppress(OSError):
+        os.nice(-10)
+        os.sched_setscheduler(0, os.SCHED_FIFO, os.sched_param(1))
 
 
 def opened(name: str) -> socket.socket:
@@ -70,13 +77,15 @@ def opened(name: str) -> socket.socket:
 
 
 @contextlib.contextmanager
-def recorder(path: str, seconds: int) -> Iterator[Callable[[Counter[bytes]], int]]:
-    """Records at all ports of the switch; it ends by itself, too. What is given waits until these
-    frames are recorded, and says how many are lost."""
+def recorder(
+    path: str, seconds: int, ends: Iterable[object], ways: Sequence[str]
+) -> Iterator[Callable[[Counter[bytes]], int]]:
+    """Records at these ends what goes these ways; it ends by itself, too. What is given waits until
+    these frames are recorded, and says how many are lost."""
     words = ["dumpcap", "-w", path, "-a", f"duration:{seconds + PATIENCE}"]
-    for port in PORTS:
-        for way in ("inbound", "outbound"):
-            words += ["-i", f"p{port}", "-f", way]
+    for end in ends:
+        for way in ways:
+            words += ["-i", f"p{end}", "-f", way]
     with subprocess.Popen(words, stdin=subprocess.DEVNULL, stderr=subprocess.PIPE) as run:
         try:
             assert run.stderr is not None
@@ -167,13 +176,12 @@ class Bench:
 def main() -> None:
     """Runs the bench."""
     name, seconds, folder = sys.argv[1], int(sys.argv[2]), sys.argv[3]
-    lay_cables()
-    with contextlib.suppress(OSError):  # a busy machine shouldn't make a frame wait
-        os.nice(-10)
-        os.sched_setscheduler(0, os.SCHED_FIFO, os.sched_param(1))
+    lay_cables(PORTS)
+    go_first()
     length = seconds * 10**9
     coming = traffic(length)
-    with recorder(os.path.join(folder, "run.pcapng"), seconds) as await_recorded:
+    path = os.path.join(folder, "run.pcapng")
+    with recorder(path, seconds, PORTS, ("inbound", "outbound")) as await_recorded:
         begin = time.time_ns() + 500 * MS  # all is made ready till then
         end = begin + length
         switch = SWITCHES[name](lambda now: begin + FROM + 300 * MS < now < end - 500 * MS)

@@ -20,8 +20,6 @@ from __future__ import annotations
 import argparse
 import json
 import os
-import shutil
-import subprocess
 import sys
 import tempfile
 from concurrent.futures import ThreadPoolExecutor
@@ -32,6 +30,7 @@ TESTS = os.path.join(os.path.dirname(os.path.abspath(__file__)), "..")
 sys.path[:0] = [os.path.join(TESTS, name) for name in ("lib", "conform")]
 from conform import conform  # noqa: E402
 from conform_recorded import conform_recordings  # noqa: E402
+from live import TRIES, run_bench, why_not  # noqa: E402
 from live_switches import FROM, LATENCY, PORT, SLACK, SWITCHES, SYSTEMS, TABLES  # noqa: E402
 from one_switch import MS  # noqa: E402
 from program import Answer, Cases, Program, Wrong, must, same_text  # noqa: E402
@@ -41,10 +40,7 @@ from tables import text_of  # noqa: E402
 BENCH = os.path.join(TESTS, "conform", "live_bench.py")
 OPTIONS = ("--slack", str(SLACK), "--from", str(FROM))
 WAYS = ("came", "left")  # of the interfaces of a port
-NEEDED = ("ip", "unshare", "dumpcap")
-PATIENCE = 300  # seconds beside those of the traffic
 SLOW = LATENCY * 15 // 100  # a frame that goes out so much later than it should says nothing
-TRIES = 3  # of a bench that was too slow
 
 
 class Run(NamedTuple):
@@ -66,21 +62,6 @@ class Run(NamedTuple):
         return f"the recorder lost {self.lost} frames here" if self.lost else ""
 
 
-def network_words() -> list[str]:
-    """How a command gets a network of its own."""
-    return ["unshare", "--net"] if os.geteuid() == 0 else ["unshare", "--map-root-user", "--net"]
-
-
-def why_not() -> str:
-    """Why no bench can be made here; empty where one can."""
-    missing = [name for name in NEEDED if shutil.which(name) is None]
-    if missing:
-        return f"there is no {', '.join(missing)}"
-    words = [*network_words(), "ip", "link", "add", "p1", "type", "veth", "peer", "name", "s1"]
-    run = subprocess.run(words, capture_output=True, text=True, check=False)
-    return run.stderr.strip().split("\n")[0] or f"status {run.returncode}" if run.returncode else ""
-
-
 def lists_of(recording: bytes) -> tuple[bytes, bytes]:
     """What came to the switch, and what left it, by time, from the first frame's on."""
     frames = [each for each in recorded(recording).numbers if each and each.stamp is not None]
@@ -98,11 +79,7 @@ def lists_of(recording: bytes) -> tuple[bytes, bytes]:
 
 def run_of(name: str, seconds: int, folder: str) -> Run:
     """A switch of this name, recorded."""
-    words = [*network_words(), sys.executable, BENCH, name, str(seconds), folder]
-    run = subprocess.run(
-        words, capture_output=True, text=True, timeout=seconds + PATIENCE, check=False
-    )
-    must(run.returncode == 0, f"the bench ended with {run.returncode}: {run.stderr.strip()}")
+    run_bench(BENCH, name, seconds, folder)
     with open(os.path.join(folder, "run.pcapng"), "rb") as file:
         recording = file.read()
     with open(os.path.join(folder, "said.json"), encoding="ascii") as file:
