@@ -264,7 +264,7 @@ sent_and_left() { # TIMES BEHIND
     for time in $1; do
         printf 'F %d A 1 %s\nF %d B 1 %s\n' "$time" "$one" "$((time + $2))" "$twin"
     done >"$judged/came.list"
-    sed 's/ 1 / 3 /' "$judged/came.list" | awk '{ $2 += 6720; print }' >"$judged/left.list"
+    awk '{ $2 += 6720; $4 = 3; print }' "$judged/came.list" >"$judged/left.list"
 }
 
 senders_tests() {
@@ -277,14 +277,14 @@ senders_tests() {
         says out 'senders     conforms'
         says out 'together    No sender left the law. The switch conforms. These are two answers'
         says out 'Nothing stands in the way of reading them together'
-        wants_number "$json" "$sums['sent'], $sums['alone']" '(2, 0)'
+        wants_number "$json" "${sums}['sent'], ${sums}['alone']" '(2, 0)'
         wants_number "$json" '[s["sent"] for s in r["senders"]]' '[2, 0]'
         wants_number "$json" '{p["holds"] for p in r["premises"]}' "{'yes'}"
         wants_page "$judged/out/report.html"
     )"
     sent_and_left '0 499999' 988781
-    grep ' A ' "$judged/came.list" | sed 's/ 1 / 2 /; s/499999/999999/' >>"$judged/came.list"
-    sort -k 2,2n -o "$judged/came.list" "$judged/came.list"
+    sed -n '/ A /{s/ 1 / 2 /; s/499999/999999/; p}' "$judged/came.list" >"$judged/others.list"
+    sort -k 2,2n -o "$judged/came.list" "$judged/came.list" "$judged/others.list"
     sort -k 2,2n -o "$judged/left.list" "$judged/left.list"
     printf 'title = "Bench 7"\n' >"$judged/cover.toml"
     judge --senders --slack 10 --junit "$judged/junit.xml" --cover "$judged/cover.toml"
@@ -294,7 +294,7 @@ senders_tests() {
         says out 'finding     unlawful: line 2 at 0 ns, link 1, port 2 (s2) of A: not-its-link'
         says out 'finding     apart: line 4 at 988781 ns, link 1, port 1 (s1) of B, by 21 ns'
         says out 'together    Senders left the law: '
-        wants_number "$json" "sum(s['sent'] for s in r['senders']) - $sums['sent']" 0
+        wants_number "$json" "sum(s['sent'] for s in r['senders']) - ${sums}['sent']" 0
         wants_number "$json" '[(s["link"], s["system"]) for s in r["senders"] if s["amiss"]]' \
             "[(1, 's1'), (1, 's2')]"
         wants_number "$json" '[s["reasons"] for s in r["senders"] if s["reasons"]]' \
@@ -329,7 +329,7 @@ senders_tests() {
 # Recorded are what came in on A and on B, and what left on A, at first a frame that nobody sent.
 recorded_senders_tests() {
     local json=$judged/out/report.json side
-    local places=(--interface 0=A:1 --interface 1=B:1 --left 2=A:3)
+    local places=(--interface '0=A:1' --interface '1=B:1' --left '2=A:3')
     sent_and_left '1000000 3000000' 300
     for side in A B; do grep " $side " "$judged/came.list" >"$judged/$side.list"; done
     { echo "F 0 A 3 $one"; grep ' A ' "$judged/left.list"; } >"$judged/out.list"

@@ -45,6 +45,13 @@ head_tests() {
     report_on sides --conform "$base" "$work/came.list" "$work/left.list"
     report_on sides_nothing --conform "$base" "$work/nothing.list" "$work/nothing.list"
     tell 'the heads of a judged switch' "$(same_heads sides sides_nothing 'offsets options ')"
+    if "$program" conform --help | grep -qF -- --senders; then
+        tell 'the heads of a switch that is judged with its senders' "$(
+            judged_heads senders --senders "$base"
+            same_heads senders senders_faulty 'offsets options '
+            [[ $(wc -l <"$headed/senders/sender_deviations.csv") -gt 1 ]] || echo 'no finding'
+        )"
+    fi
 }
 
 # What came and what left of a switch, and lists of which the second has a fault: no table has rows.

@@ -11,6 +11,7 @@ from afdx_tools.report.ranking import place_of, ranked
 from afdx_tools.report.style import POLICY, SCRIPT, STYLE
 from afdx_tools.tables import Row
 
+OF_ANSWERS = "#cover .answers tbody th { white-space: nowrap; }\n"  # a style
 FIND = (
     "<p class='find' hidden><label>Find rows <input id='find' type='search' "
     "placeholder='links and names, as 304 A'></label> <span id='found' role='status'></span></p>"
@@ -68,7 +69,8 @@ def whole_page(
         "<!doctype html><html lang='en'><head><meta charset='utf-8'>",
         f'<meta http-equiv="Content-Security-Policy" content="{POLICY}">',
         "<meta name='viewport' content='width=device-width, initial-scale=1'>",
-        f"<title>{escape(title)}</title><style>{STYLE}{sheet_style(run)}</style></head>",
+        f"<title>{escape(title)}</title><style>{STYLE}{OF_ANSWERS if answers else ''}",
+        f"{sheet_style(run)}</style></head>",
         "<body><main>",
         cover_section(cover, answers + made_table(run)),
         f"<header><h1>{escape(title)}</h1><p>{escape(words)}</p></header>",
