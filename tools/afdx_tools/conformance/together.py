@@ -23,7 +23,7 @@ SAID = "These are two answers of two runs. "
 ALL_MET = (
     "Nothing stands in the way of reading them together: the tables are admitted, all was recorded "
     "and judged, with exact stamps. That each message came once and in order isn't proved of both "
-    "as one statement."
+    "runs as one statement."
 )
 SOME_LACK = "No more follows from them, since this isn't so: "
 
