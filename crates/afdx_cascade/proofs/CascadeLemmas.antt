@@ -165,7 +165,7 @@ module _ (c : Plan) (so_far : List SwitchEvent) (w new : Cascade) (until : ℕ)
         (ring-by c w.transit.items st.ring until st.in_transit by.transit)).0
 
     abbrev came : SwitchEvent
-    came = arriving c so_far next.is.arrived.at.switch (brought next.r.side next.is.arrived.at.port next.r.turn)
+    came = arriving c so_far next.is.arrived.at.switch.0 (brought next.r.side next.is.arrived.at.port next.r.turn)
 
     came-tells : TellsEvent c so_far value came
     came-tells = subst (λ v. TellsEvent c so_far v came) (sym next.is.arrived.is) (

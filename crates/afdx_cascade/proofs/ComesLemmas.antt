@@ -103,10 +103,10 @@ pub record FirstComes (c : Plan) (so_far : List SwitchEvent) (at : ℕ) (ns : Li
     (f : FirstTurn) : Type 0 where
   pub place : ℕ
   pub below : place < length ns
-  pub switch_is : f.switch ≡ at + place
+  pub switch_is : f.switch.0 ≡ at + place
   pub gone : PortTurn
-  pub next : IsNextOf (c.tables f.switch) f.side
-      (calls_on f.side (at_switch f.switch so_far) 0) gone
+  pub next : IsNextOf (c.tables f.switch.0) f.side
+      (calls_on f.side (at_switch f.switch.0 so_far) 0) gone
   pub order_is : f.order ≡ order_of (due_at gone.turn)
 
 comes-from : (c : Plan) (so_far : List SwitchEvent) (at : ℕ) (ns : List Network) (f : FirstTurn)
@@ -120,9 +120,9 @@ comes-from c so_far at (n ∷ ns) f each small (order, side, None, tells, rest, 
     own : f ≡ first_with order at side → FirstComes c so_far at (n ∷ ns) f
     own is =
         let o : f.order ≡ order = ap (λ (x : FirstTurn). x.order) is in
-        let k : f.switch ≡ at + 0 = ap (λ (x : FirstTurn). x.switch) is ∙ omega arith in
+        let k : f.switch.0 ≡ at + 0 = ap (λ (x : FirstTurn). x.switch.0) is ∙ omega arith in
         let s : f.side ≡ side = ap (λ (x : FirstTurn). x.side) is in
-        let comes : Comes (c.tables f.switch) f.side (at_switch f.switch so_far) f.order =
+        let comes : Comes (c.tables f.switch.0) f.side (at_switch f.switch.0 so_far) f.order =
         subst (λ j. Comes (c.tables j) f.side (at_switch j so_far) f.order) (sym k)
         (subst (λ z. Comes (c.tables (at + 0)) z (at_switch (at + 0) so_far) f.order) (sym s)
         (subst (λ m. Comes (c.tables (at + 0)) side (at_switch (at + 0) so_far) m) (sym o)
@@ -150,9 +150,9 @@ comes-from c so_far at (n ∷ ns) f each small (order, side, Some g, tells, rest
     own : f ≡ first_with order at side → FirstComes c so_far at (n ∷ ns) f
     own is =
         let o : f.order ≡ order = ap (λ (x : FirstTurn). x.order) is in
-        let k : f.switch ≡ at + 0 = ap (λ (x : FirstTurn). x.switch) is ∙ omega arith in
+        let k : f.switch.0 ≡ at + 0 = ap (λ (x : FirstTurn). x.switch.0) is ∙ omega arith in
         let s : f.side ≡ side = ap (λ (x : FirstTurn). x.side) is in
-        let comes : Comes (c.tables f.switch) f.side (at_switch f.switch so_far) f.order =
+        let comes : Comes (c.tables f.switch.0) f.side (at_switch f.switch.0 so_far) f.order =
         subst (λ j. Comes (c.tables j) f.side (at_switch j so_far) f.order) (sym k)
         (subst (λ z. Comes (c.tables (at + 0)) z (at_switch (at + 0) so_far) f.order) (sym s)
         (subst (λ m. Comes (c.tables (at + 0)) side (at_switch (at + 0) so_far) m) (sym o)

@@ -77,8 +77,8 @@ least-late : (c : Plan) (so_far : List SwitchEvent) (f : FirstTurn) (time : ℕ)
 least-late c so_far f time found late j side =
     let is = found.is in
     elim (found.least j side) [
-      | inl same ↦ (let e : found.order j side ≡ found.order f.switch f.side =
-          ap (λ i. found.order i side) same.0 ∙ ap (found.order f.switch) same.1 in
+      | inl same ↦ (let e : found.order j side ≡ found.order f.switch.0 f.side =
+          ap (λ i. found.order i side) same.0 ∙ ap (found.order f.switch.0) same.1 in
           omega (arith, late, is, e))
       | inr more ↦ elim more [
         | inl lt ↦ omega (arith, late, is, lt)
@@ -91,11 +91,11 @@ front-can c so_far networks time r rest f v keeps is late on =
     let end : (as_given v.departure).end ≡ time =
     ap (λ (l : LeftOver HeldFrame). l.end) on.left ∙ keeps.stands.carried.at_time.0 in
     record {
-      within = keeps.within r.from.switch r.from.port (end_at v.switch v.port) on.to;
+      within = keeps.within r.from.switch r.from.port (end_at v.switch.0 v.port) on.to;
       limit = elim keeps.soon [ inl none ↦ absurd (cc none) | inr le ↦ omega (arith, end, le) ];
-      clock = λ n at. subst (λ t. network.IsUntil n t) (sym end) (keeps.clock v.switch n at);
+      clock = λ n at. subst (λ t. network.IsUntil n t) (sym end) (keeps.clock v.switch.0 n at);
       quiet = λ n at. subst (λ t. network.IsQuiet n t) (sym end)
-          (quiet-then n f time (told-from 0 networks f is v.switch n at) late);
+          (quiet-then n f time (told-from 0 networks f is v.switch.0 n at) late);
     }
 
 -- what is due after an arrival is given from then on
@@ -132,27 +132,27 @@ front-first c so_far networks time r rest f to keeps is late joined lines before
 pub front-keeps : FrontKeeps
 front-keeps c so_far old networks transit time r rest f value keeps is late arrives size clock quiet =
     let x = brought r.side arrives.at.port r.turn in
-    let a = admission_after (c.tables arrives.at.switch) (came_to arrives.at.switch so_far) x in
+    let a = admission_after (c.tables arrives.at.switch.0) (came_to arrives.at.switch.0 so_far) x in
     let after = quiet-at c networks
-    (event_at arrives.at.switch (Came a) ∷ so_far) time arrives.at.switch arrives.stands.all
+    (event_at arrives.at.switch.0 (Came a) ∷ so_far) time arrives.at.switch.0 arrives.stands.all
     (subst (λ v. (n : Network) → slice_get networks (switch_of v) ≡ Some n → network.IsQuiet n time)
     arrives.is quiet) in
     record {
       next = λ lines before.
-          front-first c so_far old time r rest f (end_at arrives.at.switch arrives.at.port) keeps is late arrives.to
+          front-first c so_far old time r rest f (end_at arrives.at.switch.0 arrives.at.port) keeps is late arrives.to
           lines before;
       keeps = record {
         plan = keeps.plan;
         within = λ k port e joined. (let w = keeps.within k port e joined in
             omega (arith, w, size));
         stands = arrives.stands;
-        behind = arrival-behind c so_far rest arrives.at.switch a time
+        behind = arrival-behind c so_far rest arrives.at.switch.0 a time
             (ends-by time rest keeps.stands.carried.at_time.1)
             (λ side port s low high next. after side port s low high
-            (subst (λ es. IsNextOn (c.tables arrives.at.switch) es side port s)
-            (sym (at-same arrives.at.switch (Came a) so_far)) next))
+            (subst (λ es. IsNextOn (c.tables arrives.at.switch.0) es side port s)
+            (sym (at-same arrives.at.switch.0 (Came a) so_far)) next))
             keeps.behind.1;
-        later = later-then c so_far arrives.at.switch a time keeps.later after;
+        later = later-then c so_far arrives.at.switch.0 a time keeps.later after;
         clock = clock;
         soon = elim keeps.soon [ inl none ↦ absurd (cc none) | inr le ↦ inr le ];
       };

@@ -43,11 +43,11 @@ module _ (c : Plan) (so_far : List SwitchEvent) (old networks : List Network)
     (is_first : IsFirstFrom 0 old (Some f)) (small : f.order < order_without_turn)
     (early : (ring ≡ []) ⊎ (f.order ≤ 2 * time)) (low : f.order ≤ 2 * until) (high : 2 * until
     ≤ f.order + 1)
-    (g : TurnsAt c networks transit time ring so_far f.switch until value) (size : length networks
+    (g : TurnsAt c networks transit time ring so_far f.switch.0 until value) (size : length networks
     ≡ length old)
     (clock : (k : ℕ) (n : Network) → slice_get networks k ≡ Some n → network.IsUntil n until) where
   k : ℕ
-  k = f.switch
+  k = f.switch.0
 
   gone : PortTurn
   gone = record { port = g.departure.port; turn = g.departure.turn }
@@ -60,33 +60,33 @@ module _ (c : Plan) (so_far : List SwitchEvent) (old networks : List Network)
       let comes = scan-comes c so_far old f keeps.stands.all is_first small in
       that-one c so_far f g.departure found comes.gone comes.next comes.order_is g.next g.first
 
-  next : IsNextOf (c.tables f.switch) f.side (calls_on f.side (at_switch f.switch so_far) 0)
+  next : IsNextOf (c.tables f.switch.0) f.side (calls_on f.side (at_switch f.switch.0 so_far) 0)
       (record { port = g.departure.port; turn = g.departure.turn })
-  next = subst (λ s. IsNextOf (c.tables f.switch) s (calls_on s (at_switch f.switch so_far) 0)
+  next = subst (λ s. IsNextOf (c.tables f.switch.0) s (calls_on s (at_switch f.switch.0 so_far) 0)
       (record { port = g.departure.port; turn = g.departure.turn })) that.side_is g.next
 
-  order_is : found.order f.switch f.side ≡ order_of (due_at g.departure.turn)
+  order_is : found.order f.switch.0 f.side ≡ order_of (due_at g.departure.turn)
   order_is = sym found.is ∙ that.order_is
 
-  soonest : (ring ≡ []) ⊎ (found.order f.switch f.side ≤ 2 * time)
+  soonest : (ring ≡ []) ⊎ (found.order f.switch.0 f.side ≤ 2 * time)
   soonest = elim early [ inl e ↦ inl e | inr le ↦ inr (let is = found.is in omega (arith, le, is)) ]
 
-  same-event : event_at f.switch (Left g.departure)
-      ≡ turn_event so_far f.switch f.side
+  same-event : event_at f.switch.0 (Left g.departure)
+      ≡ turn_event so_far f.switch.0 f.side
       (record { port = g.departure.port; turn = g.departure.turn })
   same-event =
-      ap (λ n. event_at f.switch
+      ap (λ n. event_at f.switch.0
       (Left (departure_with g.departure.side g.departure.port n g.departure.turn))) g.stands.follows.0.2
-      ∙ ap (λ s. event_at f.switch
-      (Left (departure_after (at_switch f.switch so_far) s g.departure.port g.departure.turn)))
+      ∙ ap (λ s. event_at f.switch.0
+      (Left (departure_after (at_switch f.switch.0 so_far) s g.departure.port g.departure.turn)))
       that.side_is
 
   first : (other : List ℕ) (h : SwitchEvent) → IsDue c so_far other h
-      → (h ≡ turn_event so_far f.switch f.side
+      → (h ≡ turn_event so_far f.switch.0 f.side
       (record { port = g.departure.port; turn = g.departure.turn }))
-      ⊎ (is_below (turn_place f.switch f.side
+      ⊎ (is_below (turn_place f.switch.0 f.side
       (record { port = g.departure.port; turn = g.departure.turn })) other ≡ true)
-  first = turn-next-first c so_far found.order f.switch f.side
+  first = turn-next-first c so_far found.order f.switch.0 f.side
       (record {
         port = g.departure.port;
         turn =
@@ -95,11 +95,11 @@ module _ (c : Plan) (so_far : List SwitchEvent) (old networks : List Network)
       keeps.stands.carried soonest
 
   own-due : IsTurnDue c so_far
-      (turn_place f.switch f.side (record { port = g.departure.port; turn = g.departure.turn }))
-      (turn_event so_far f.switch f.side
+      (turn_place f.switch.0 f.side (record { port = g.departure.port; turn = g.departure.turn }))
+      (turn_event so_far f.switch.0 f.side
       (record { port = g.departure.port; turn = g.departure.turn }))
   own-due = record {
-    k = f.switch;
+    k = f.switch.0;
     side = f.side;
     port = g.departure.port;
     turn = g.departure.turn;
@@ -117,22 +117,22 @@ module _ (c : Plan) (so_far : List SwitchEvent) (old networks : List Network)
       (λ z. z.turn.end ≤ g.departure.turn.end) ring
       (λ z after. head-le z.turn.end g.departure.turn.end
       (0 ∷ side_number z.side ∷ z.from.switch ∷ z.from.port ∷ [])
-      (turn_phase g.departure.turn.too_old ∷ side_number f.side ∷ f.switch ∷ g.departure.port ∷ [])
-      (after (turn_place f.switch f.side
+      (turn_phase g.departure.turn.too_old ∷ side_number f.side ∷ f.switch.0 ∷ g.departure.port ∷ [])
+      (after (turn_place f.switch.0 f.side
       (record { port = g.departure.port; turn = g.departure.turn }))
-      (turn_event so_far f.switch f.side
+      (turn_event so_far f.switch.0 f.side
       (record { port = g.departure.port; turn = g.departure.turn })) own-due))
       keeps.behind
 
-  behind : AreDueAfter c (event_at f.switch (Left g.departure) ∷ so_far) ring
+  behind : AreDueAfter c (event_at f.switch.0 (Left g.departure) ∷ so_far) ring
   behind = subst (λ h. AreDueAfter c (h ∷ so_far) ring) (sym same-event)
-      (turn-behind c so_far ring f.switch f.side
+      (turn-behind c so_far ring f.switch.0 f.side
       (record { port = g.departure.port; turn = g.departure.turn }) keeps.plan
       (all-mapped
       (λ z. (place : List ℕ) (h : SwitchEvent) → IsTurnDue c so_far place h
       → is_below (slot_place z) place ≡ true)
       (λ z. (place : List ℕ) (h : SwitchEvent) → IsTurnDue c so_far place h →
-      (h ≡ turn_event so_far f.switch f.side
+      (h ≡ turn_event so_far f.switch.0 f.side
       (record { port = g.departure.port; turn = g.departure.turn }))
       ⊎ (is_below (slot_place z) place ≡ true)) ring
       (λ z after place h due. inr (after place h due)) keeps.behind) ends)
@@ -153,18 +153,18 @@ module _ (c : Plan) (so_far : List SwitchEvent) (old networks : List Network)
 
   later : (j : ℕ) (side : Side) (port : ℕ) (s : Turn HeldFrame) → 1 ≤ port → port ≤ 24
       → IsNextOn (c.tables j) (at_switch j
-      (event_at f.switch (Left g.departure) ∷ so_far)) side port s
+      (event_at f.switch.0 (Left g.departure) ∷ so_far)) side port s
       → until ≤ given_at (due_at s)
   later j side port s l h next_s =
-      elim (was-next c so_far f.switch g.departure keeps.plan j side port s next_s) [
+      elim (was-next c so_far f.switch.0 g.departure keeps.plan j side port s next_s) [
         | inr after ↦ own-later until g.departure.turn.end
             (given_at (due_at s)) g.departure.turn.too_old until_is after
         | inl was ↦
             (let le = found.are j side port s l h was.next in
             let is = found.is in
             let least : f.order ≤ order_of (due_at s) = elim (found.least j side) [
-              | inl same ↦ (let e : found.order j side ≡ found.order f.switch f.side =
-                  ap (λ i. found.order i side) same.0 ∙ ap (found.order f.switch) same.1 in
+              | inl same ↦ (let e : found.order j side ≡ found.order f.switch.0 f.side =
+                  ap (λ i. found.order i side) same.0 ∙ ap (found.order f.switch.0) same.1 in
                   omega (arith, le, is, e))
               | inr more ↦ elim more [
                 | inl lt ↦ omega (arith, le, is, lt)
@@ -175,16 +175,16 @@ module _ (c : Plan) (so_far : List SwitchEvent) (old networks : List Network)
       ]
 
   comes-next : (lines : List Line)
-      → IsBeforeLine (turn_place f.switch g.departure.side
+      → IsBeforeLine (turn_place f.switch.0 g.departure.side
       (record { port = g.departure.port; turn = g.departure.turn })) lines
-      → IsFirstDue c so_far lines (event_at f.switch (Left g.departure))
+      → IsFirstDue c so_far lines (event_at f.switch.0 (Left g.departure))
   comes-next lines before =
       subst (λ h. IsFirstDue c so_far lines h) (sym same-event)
-      (turn-next c so_far lines found.order f.switch f.side
+      (turn-next c so_far lines found.order f.switch.0 f.side
       (record { port = g.departure.port; turn = g.departure.turn })
       time ring found.are found.least next order_is keeps.stands.carried soonest
       (subst (λ s. IsBeforeLine
-      (turn_place f.switch s (record {
+      (turn_place f.switch.0 s (record {
         port = g.departure.port;
         turn =
             g.departure.turn;
@@ -194,7 +194,7 @@ module _ (c : Plan) (so_far : List SwitchEvent) (old networks : List Network)
   within : (j port : ℕ) (e : End) → c.far_end j port ≡ Some e → e.switch < length networks
   within j port e joined = let w = keeps.within j port e joined in omega (arith, w, size)
 
-  ended : IsLast c f.switch g.departure → TurnIsNext c networks transit until so_far f.switch value
+  ended : IsLast c f.switch.0 g.departure → TurnIsNext c networks transit until so_far f.switch.0 value
   ended last = record {
     departure = g.departure;
     tells = g.tells;
@@ -204,7 +204,7 @@ module _ (c : Plan) (so_far : List SwitchEvent) (old networks : List Network)
     keeps = record {
       plan = keeps.plan;
       within = within;
-      stands = restamp c networks time until ring (event_at f.switch (Left g.departure) ∷ so_far)
+      stands = restamp c networks time until ring (event_at f.switch.0 (Left g.departure) ∷ so_far)
           (g.ended last).0 same-time;
       behind = behind;
       later = later;
@@ -218,30 +218,30 @@ module _ (c : Plan) (so_far : List SwitchEvent) (old networks : List Network)
   }
 
   carried : (to : End) → g.departure.turn.too_old ≡ false → g.departure.turn.end ≤ 1000032768000000
-      → c.far_end f.switch g.departure.port ≡ Some to
-      → TurnIsNext c networks transit until so_far f.switch value
+      → c.far_end f.switch.0 g.departure.port ≡ Some to
+      → TurnIsNext c networks transit until so_far f.switch.0 value
   carried to young soon joined =
       let r : OnCable = record {
-        from = end_at f.switch g.departure.port;
+        from = end_at f.switch.0 g.departure.port;
         side =
             g.departure.side;
         turn = g.departure.turn;
       } in
-      let place : turn_place f.switch f.side
+      let place : turn_place f.switch.0 f.side
       (record { port = g.departure.port; turn = g.departure.turn }) ≡ slot_place r =
-      ap (λ b. g.departure.turn.end ∷ turn_phase b ∷ side_number f.side ∷ f.switch ∷ g.departure.port ∷ []) young
-      ∙ ap (λ s. g.departure.turn.end ∷ 0 ∷ side_number s ∷ f.switch ∷ g.departure.port ∷ [])
+      ap (λ b. g.departure.turn.end ∷ turn_phase b ∷ side_number f.side ∷ f.switch.0 ∷ g.departure.port ∷ []) young
+      ∙ ap (λ s. g.departure.turn.end ∷ 0 ∷ side_number s ∷ f.switch.0 ∷ g.departure.port ∷ [])
       (sym that.side_is) in
       let at : (ring ≡ []) ⊎ (time ≡ g.departure.turn.end) =
       elim time_is [ inl e ↦ inl e | inr h ↦ inr h.0 ] in
       let now : until ≡ g.departure.turn.end =
       until_is ∙ ap (λ b. g.departure.turn.end + (if b then 1 else 0)) young ∙ omega arith in
       let below = joins-behind c so_far ring r
-      (turn_event so_far f.switch f.side
+      (turn_event so_far f.switch.0 f.side
       (record { port = g.departure.port; turn = g.departure.turn }))
       (all-ends ring at keeps.stands.carried.at_time) keeps.behind
       (subst (λ p. IsTurnDue c so_far p
-      (turn_event so_far f.switch f.side
+      (turn_event so_far f.switch.0 f.side
       (record { port = g.departure.port; turn = g.departure.turn }))) place own-due) in
       let more = g.carried to young soon joined at below in
       record {
@@ -254,11 +254,11 @@ module _ (c : Plan) (so_far : List SwitchEvent) (old networks : List Network)
           plan = keeps.plan;
           within = within;
           stands = subst (λ t. Stands c networks t (ring ++ r ∷ [])
-              (event_at f.switch (Left g.departure) ∷ so_far))
+              (event_at f.switch.0 (Left g.departure) ∷ so_far))
               (sym now) more.0;
           behind = all-pushed
               (λ z. (p : List ℕ) (h : SwitchEvent)
-              → IsTurnDue c (event_at f.switch (Left g.departure) ∷ so_far) p h
+              → IsTurnDue c (event_at f.switch.0 (Left g.departure) ∷ so_far) p h
               → is_below (slot_place z) p ≡ true) ring r behind (own-behind r place refl);
           later = later;
           clock = clock;
@@ -276,35 +276,35 @@ module _ (c : Plan) (so_far : List SwitchEvent) (old networks : List Network)
           subst (λ t. AllByRecursion (λ y. y.turn.end ≡ t) (z ∷ zs)) e all
 
       own-behind : (r : OnCable)
-          → turn_place f.switch f.side (record { port = g.departure.port; turn = g.departure.turn })
+          → turn_place f.switch.0 f.side (record { port = g.departure.port; turn = g.departure.turn })
           ≡ slot_place r
           → r.turn.end ≡ g.departure.turn.end
           → (p : List ℕ) (h : SwitchEvent)
-          → IsTurnDue c (event_at f.switch (Left g.departure) ∷ so_far) p h
+          → IsTurnDue c (event_at f.switch.0 (Left g.departure) ∷ so_far) p h
           → is_below (slot_place r) p ≡ true
       own-behind r place same = (subst (λ h. AreDueAfter c (h ∷ so_far) (r ∷ [])) (sym same-event)
-          (turn-behind c so_far (r ∷ []) f.switch f.side
+          (turn-behind c so_far (r ∷ []) f.switch.0 f.side
           (record { port = g.departure.port; turn = g.departure.turn }) keeps.plan (
-            (λ p h due. subst (λ q. (h ≡ turn_event so_far f.switch f.side
+            (λ p h due. subst (λ q. (h ≡ turn_event so_far f.switch.0 f.side
                 (record { port = g.departure.port; turn = g.departure.turn }))
                 ⊎ (is_below q p ≡ true)) place (first p h (inl due))),
             tt,
           )
           (omega (arith, same), tt))).0
 
-  all-goes-on : TurnIsNext c networks transit until so_far f.switch value
+  all-goes-on : TurnIsNext c networks transit until so_far f.switch.0 value
   all-goes-on = elim (cases_Bool g.departure.turn.too_old) [
     | inl old_one ↦ ended (inl old_one)
     | inr young ↦ elim (cases_lt 1000032768000000 g.departure.turn.end) [
       | inl late ↦ ended (inr (inr late))
-      | inr soon ↦ by-end (c.far_end f.switch g.departure.port) refl young soon
+      | inr soon ↦ by-end (c.far_end f.switch.0 g.departure.port) refl young soon
     ]
   ]
     where
-      by-end : (o : Option End) → c.far_end f.switch g.departure.port ≡ o
+      by-end : (o : Option End) → c.far_end f.switch.0 g.departure.port ≡ o
           → g.departure.turn.too_old ≡ false
           → g.departure.turn.end ≤ 1000032768000000
-          → TurnIsNext c networks transit until so_far f.switch value
+          → TurnIsNext c networks transit until so_far f.switch.0 value
       by-end None free young soon = ended (inr (inl free))
       by-end (Some to) joined young soon = carried to young soon joined
 

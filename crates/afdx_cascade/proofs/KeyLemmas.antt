@@ -30,7 +30,7 @@ side-same A B e = absurd (cc e)
 side-same B A e = absurd (cc e)
 
 abbrev key-first : FirstTurn → ℕ
-key-first f = key_of f.order f.side f.switch
+key-first f = key_of f.order f.side f.switch.0
 
 -- the order counts first
 order-before : (o p w v : ℕ) (s r : Side) → o < p → w < 32 → key_of o s w ≤ key_of p r v
@@ -42,8 +42,8 @@ order-before o p w v s r lt low =
 record Found (at : ℕ) (ns : List Network) (keys : List ℕ) : Type 0 where
   pub first : FirstTurn
   pub is : IsFirstFrom at ns (Some first)
-  pub low : at ≤ first.switch
-  pub high : first.switch < at + length ns
+  pub low : at ≤ first.switch.0
+  pub high : first.switch.0 < at + length ns
   pub place : ℕ
   pub own : slice_get keys place ≡ Some (key-first first)
   pub lowest : (i key : ℕ) → slice_get keys i ≡ Some key → key-first first ≤ key
@@ -119,7 +119,7 @@ module _ (at key : ℕ) (keys : List ℕ) (n : Network) (ns : List Network) (ord
 
     -- at one place of the order: by side, then by switch
     at-one-place : order ≡ f.first.order → (s r : Side) → side ≡ s → f.first.side ≡ r
-        → f.first.switch < 32 → Found at (n ∷ ns) (key ∷ keys)
+        → f.first.switch.0 < 32 → Found at (n ∷ ns) (key ∷ keys)
     at-one-place e s r is other high = by s r is other
       where
         pick : earlier_of (first_with order at side) (Some f.first)
@@ -135,14 +135,14 @@ module _ (at key : ℕ) (keys : List ℕ) (n : Network) (ns : List Network) (ord
         by B B i h = own-first (pick ∙ rw (i, h) refl) (rw (i, h) (let l = f.low in omega (arith, e, l)))
         by B A i h = other-first (pick ∙ rw (i, h) refl) (rw (i, h) (omega (arith, e, high)))
 
-    head-and-more : at < 32 → f.first.switch < 32 → Found at (n ∷ ns) (key ∷ keys)
+    head-and-more : at < 32 → f.first.switch.0 < 32 → Found at (n ∷ ns) (key ∷ keys)
     head-and-more own high = elim (cases_lt f.first.order order) [
       | inl lt ↦ other-first (rw (nat_lt-true f.first.order order lt) refl)
-          (order-before f.first.order order f.first.switch at f.first.side side lt high)
+          (order-before f.first.order order f.first.switch.0 at f.first.side side lt high)
       | inr le ↦ elim (cases_lt order f.first.order) [
         | inl less ↦ own-first
             (rw (nat_lt-false f.first.order order le, nat_lt-true order f.first.order less) refl)
-            (order-before order f.first.order at f.first.switch side f.first.side less own)
+            (order-before order f.first.order at f.first.switch.0 side f.first.side less own)
         | inr ge ↦ at-one-place (omega (arith, le, ge)) side f.first.side refl refl high
       ]
     ]
@@ -167,10 +167,10 @@ found at n (m ∷ ms) (key ∷ keys) few all =
 pub record LeastIs (ns : List Network) (least : ℕ) : Type 0 where
   pub first : FirstTurn
   pub is : IsFirstFrom 0 ns (Some first)
-  pub within : first.switch < length ns
+  pub within : first.switch.0 < length ns
   pub order : least / 64 ≡ first.order
   pub side : least / 32 % 2 ≡ side_number first.side
-  pub switch : least % 32 ≡ first.switch
+  pub switch : least % 32 ≡ first.switch.0
 
 pub least-is : (ns : List Network) (keys : List ℕ) (least : ℕ) → length ns ≤ 24
     → AreKeys ns keys → IsLeast keys least → LeastIs ns least
@@ -183,7 +183,7 @@ least-is (n ∷ ns) keys least few all is =
     let low = f.lowest is.place least is.own in
     let high = is.lowest f.place (key-first f.first) (omega arith)
     (slice_get_within keys f.place (key-first f.first) f.own) f.own in
-    let same : least ≡ key_of f.first.order f.first.side f.first.switch = omega (arith, low, high) in
+    let same : least ≡ key_of f.first.order f.first.side f.first.switch.0 = omega (arith, low, high) in
     let s = side-low f.first.side in
     let w = f.high in
     record {
@@ -198,7 +198,7 @@ least-is (n ∷ ns) keys least few all is =
 -- what is found of it is the first turn
 pub first-is : (ns : List Network) (least number : ℕ) (side : Side) → LeastIs ns least
     → number ≡ least / 32 % 2 → side_number side ≡ number
-    → IsFirstFrom 0 ns (Some (record { order = least / 64; switch = least % 32; side = side }))
+    → IsFirstFrom 0 ns (Some (record { order = least / 64; switch = record { 0 = least % 32 }; side = side }))
 first-is ns least number side l is side_is =
     let same : side ≡ l.first.side = side-same side l.first.side (side_is ∙ is ∙ l.side) in
     subst (λ (f : FirstTurn). IsFirstFrom 0 ns (Some f))

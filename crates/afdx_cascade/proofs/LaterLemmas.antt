@@ -48,19 +48,19 @@ same-sides B A k le (inr h) = absurd (omega (arith, le))
 
 pub that-one : (c : Plan) (so_far : List SwitchEvent) (f : FirstTurn) (d : Departure)
     → (found : FindsLeast c so_far f)
-    → (gone : PortTurn) → IsNextOf (c.tables f.switch) f.side
-    (calls_on f.side (at_switch f.switch so_far) 0) gone
+    → (gone : PortTurn) → IsNextOf (c.tables f.switch.0) f.side
+    (calls_on f.side (at_switch f.switch.0 so_far) 0) gone
     → f.order ≡ order_of (due_at gone.turn)
-    → IsNextOf (c.tables f.switch) d.side (calls_on d.side (at_switch f.switch so_far) 0)
+    → IsNextOf (c.tables f.switch.0) d.side (calls_on d.side (at_switch f.switch.0 so_far) 0)
     (record { port = d.port; turn = d.turn })
-    → GoesFirst (c.tables f.switch) (at_switch f.switch so_far) d.side d.turn → IsThat f d
+    → GoesFirst (c.tables f.switch.0) (at_switch f.switch.0 so_far) d.side d.turn → IsThat f d
 that-one c so_far f d found gone gone_next gone_is next first =
     let mine = first f.side gone.port gone.turn gone_next.port_first gone_next.port_last gone_next.next in
-    let least = found.are f.switch d.side d.port d.turn next.port_first next.port_last next.next in
+    let least = found.are f.switch.0 d.side d.port d.turn next.port_first next.port_last next.next in
     let is = found.is in
-    elim (found.least f.switch d.side) [
+    elim (found.least f.switch.0 d.side) [
       | inl same ↦ whole same.1 mine
-          (subst (λ s. found.order f.switch s ≤ order_of (due_at d.turn)) same.1 least)
+          (subst (λ s. found.order f.switch.0 s ≤ order_of (due_at d.turn)) same.1 least)
       | inr more ↦ elim more [
         | inl lt ↦ absurd (elim mine [
           | inl before ↦ omega (arith, lt, least, is, gone_is, before)
@@ -69,7 +69,7 @@ that-one c so_far f d found gone gone_next gone_is next first =
         | inr tie ↦ elim mine [
           | inl before ↦ absurd (let t = tie.0 in omega (arith, t, least, is, gone_is, before))
           | inr equal ↦
-              (let side = same-sides d.side f.side f.switch equal.1 (inr tie.1) in
+              (let side = same-sides d.side f.side f.switch.0 equal.1 (inr tie.1) in
               record { side_is = side; order_is = gone_is ∙ sym equal.0 })
         ]
       ]
@@ -78,7 +78,7 @@ that-one c so_far f d found gone gone_next gone_is next first =
     whole : d.side ≡ f.side → (order_of (due_at d.turn) < order_of (due_at gone.turn))
         ⊎ ((order_of (due_at d.turn) ≡ order_of (due_at gone.turn))
         × (side_number d.side ≤ side_number f.side))
-        → found.order f.switch f.side ≤ order_of (due_at d.turn) → IsThat f d
+        → found.order f.switch.0 f.side ≤ order_of (due_at d.turn) → IsThat f d
     whole side (inl before) least = absurd (let is = found.is in
         omega (arith, is, gone_is, before, least))
     whole side (inr equal) least = record { side_is = side; order_is = gone_is ∙ sym equal.0 }

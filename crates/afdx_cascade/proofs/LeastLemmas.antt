@@ -26,7 +26,7 @@ Cases at order side place told_order other j =
 pub record Least (at : ℕ) (ns : List Network) (f : FirstTurn)
     (is : IsFirstFrom at ns (Some f)) : Type 0 where
   pub place : ℕ
-  pub switch_is : f.switch ≡ at + place
+  pub switch_is : f.switch.0 ≡ at + place
   pub order_is : f.order ≡ told at ns (Some f) is place f.side
   pub small : f.order < beyond
   pub least : (j : ℕ) (other : Side)
@@ -176,7 +176,7 @@ picked at n ns order side tells g f rest same tail =
         → Least at (n ∷ ns) f (order, side, Some g, tells, rest, same)
     other-first is before = record {
       place = suc tail.place;
-      switch_is = (let s : f.switch ≡ g.switch = ap (λ (x : FirstTurn). x.switch) is in
+      switch_is = (let s : f.switch.0 ≡ g.switch.0 = ap (λ (x : FirstTurn). x.switch.0) is in
           let t = tail.switch_is in omega (arith, s, t));
       order_is = ap (λ (x : FirstTurn). x.order) is ∙ tail.order_is
           ∙ ap (λ (x : FirstTurn). tail-number tail.place x.side) (sym is);
@@ -204,7 +204,7 @@ picked at n ns order side tells g f rest same tail =
         → Least at (n ∷ ns) f (order, side, Some g, tells, rest, same)
     own-first is before = record {
       place = 0;
-      switch_is = ap (λ (x : FirstTurn). x.switch) is ∙ omega arith;
+      switch_is = ap (λ (x : FirstTurn). x.switch.0) is ∙ omega arith;
       order_is = ap (λ (x : FirstTurn). x.order) is ∙ order-is side refl
           ∙ ap (λ (x : FirstTurn). number-of 0 x.side) (sym is);
       small = (let o : f.order ≡ order = ap (λ (x : FirstTurn). x.order) is in
@@ -251,7 +251,7 @@ alone : (at : ℕ) (n : Network) (order : ℕ) (side : Side) (tells : TellsOrder
     → Least at (n ∷ []) f (order, side, None, tells, rest, same)
 alone at n order side tells f rest same = record {
   place = 0;
-  switch_is = ap (λ (x : FirstTurn). x.switch) is ∙ omega arith;
+  switch_is = ap (λ (x : FirstTurn). x.switch.0) is ∙ omega arith;
   order_is = ap (λ (x : FirstTurn). x.order) is ∙ order-is side refl
       ∙ ap (λ (x : FirstTurn). number-of 0 x.side) (sym is);
   small = (let o : f.order ≡ order = ap (λ (x : FirstTurn). x.order) is in

@@ -40,7 +40,7 @@ module _ (c : Plan) (networks : List Network) (time : ℕ) (ring : List OnCable)
     (at : ℕ) (keeps : Keeps c networks time ring so_far) (is : IsFirstFrom 0 networks (Some f))
     (small : f.order < order_without_turn) (low : f.order ≤ 2 * at) (high : 2 * at
     ≤ f.order + 1) where
-  pub first-within : f.switch < length networks
+  pub first-within : f.switch.0 < length networks
   first-within =
       let comes = scan-comes c so_far networks f keeps.stands.all is small in
       let b = comes.below in let s = comes.switch_is in omega (arith, b, s)
@@ -49,20 +49,20 @@ module _ (c : Plan) (networks : List Network) (time : ℕ) (ring : List OnCable)
   time-by =
       let comes = scan-comes c so_far networks f keeps.stands.all is small in
       let given = given-is at comes.gone.turn.end f.order comes.gone.turn.too_old comes.order_is low high in
-      let later = keeps.later f.switch f.side comes.gone.port comes.gone.turn comes.next.port_first comes.next.port_last
-      comes.next.next in
+      let later = keeps.later f.switch.0 f.side comes.gone.port comes.gone.turn comes.next.port_first
+      comes.next.port_last comes.next.next in
       omega (arith, given, later)
 
-  pub not-quiet : ((n : Network) → slice_get networks f.switch ≡ Some n → network.IsQuiet n at) → ⊥
+  pub not-quiet : ((n : Network) → slice_get networks f.switch.0 ≡ Some n → network.IsQuiet n at) → ⊥
   not-quiet quiet =
       let comes = scan-comes c so_far networks f keeps.stands.all is small in
       let given = given-is at comes.gone.turn.end f.order comes.gone.turn.too_old comes.order_is low high in
-      let after = quiet-at c networks so_far at f.switch keeps.stands.all quiet f.side comes.gone.port comes.gone.turn
+      let after = quiet-at c networks so_far at f.switch.0 keeps.stands.all quiet f.side comes.gone.port comes.gone.turn
       comes.next.port_first comes.next.port_last comes.next.next in
       omega (arith, given, after)
 
   -- and comes next, where no cable has a frame of an earlier time
-  pub turn-lacks : (until : ℕ) → at ≤ until → IsEarly f.order time ring → LacksForTurn c until so_far f.switch
+  pub turn-lacks : (until : ℕ) → at ≤ until → IsEarly f.order time ring → LacksForTurn c until so_far f.switch.0
   turn-lacks until soon early =
       let comes = scan-comes c so_far networks f keeps.stands.all is small in
       let found = scan-least c so_far networks f keeps.stands.all is in
@@ -72,7 +72,7 @@ module _ (c : Plan) (networks : List Network) (time : ℕ) (ring : List OnCable)
         gone = comes.gone;
         in_time = omega (arith, given, soon);
         next = λ lines before.
-            turn-next c so_far lines found.order f.switch f.side comes.gone time ring found.are found.least comes.next
+            turn-next c so_far lines found.order f.switch.0 f.side comes.gone time ring found.are found.least comes.next
             (sym found.is ∙ comes.order_is) keeps.stands.carried
             (elim early [ inl e ↦ inl e | inr le ↦ inr (let o = found.is in omega (arith, le, o)) ]) before;
       }
@@ -152,7 +152,7 @@ module _ (c : Plan) (networks : List Network) (time : ℕ) (ring : List OnCable)
   -- it comes next, and has nothing wrong in its shape
   pub front-lacks : ((v : InTransit) (r : OnCable) (rest : List OnCable) → Stands c networks time (r ∷ rest) so_far
       → slice_get transit 0 ≡ Some v → IsInTransit c v r
-      → shape_fault (c.tables v.switch) (brought r.side v.port r.turn) ≡ None)
+      → shape_fault (c.tables v.switch.0) (brought r.side v.port r.turn) ≡ None)
       → LacksForFront c ring so_far
   front-lacks sound =
       let p = fronts-from c transit time f.order ring keeps.stands.carried.at_time are next in
@@ -162,9 +162,9 @@ module _ (c : Plan) (networks : List Network) (time : ℕ) (ring : List OnCable)
         r = p.r;
         rest = p.rest;
         are = p.ring_is;
-        to = end_at p.v.switch p.v.port;
+        to = end_at p.v.switch.0 p.v.port;
         next = λ lines before.
-            front-first c so_far networks time p.r p.rest f (end_at p.v.switch p.v.port) all is p.late p.on.to lines
+            front-first c so_far networks time p.r p.rest f (end_at p.v.switch.0 p.v.port) all is p.late p.on.to lines
             before;
         sound = sound p.v p.r p.rest all.stands p.front_is p.on;
       }
@@ -177,7 +177,7 @@ module _ (c : Plan) (networks : List Network) (time : ℕ) (ring : List OnCable)
       → slice_get new k ≡ Some n
       → network.IsUntil n (as_given v.departure).end)
       → ((v : InTransit) → slice_get transit 0 ≡ Some v → (n : Network)
-      → slice_get new v.switch ≡ Some n
+      → slice_get new v.switch.0 ≡ Some n
       → network.IsQuiet n (as_given v.departure).end)
       → BringsNext c new left time ring so_far value
   front-brings new left value arrives size clock still =
@@ -186,9 +186,9 @@ module _ (c : Plan) (networks : List Network) (time : ℕ) (ring : List OnCable)
       subst (λ zs. Keeps c networks time zs so_far) p.ring_is keeps in
       let arrived = arrives p.r p.rest all.stands
       (subst (λ zs. AreInTransit c transit zs) p.ring_is are) in
-      let ends : end_at p.v.switch p.v.port ≡ end_at arrived.at.switch arrived.at.port =
+      let ends : end_at p.v.switch.0 p.v.port ≡ end_at arrived.at.switch.0 arrived.at.port =
       same-end p.on.to arrived.to in
-      let switch : p.v.switch ≡ switch_of value =
+      let switch : p.v.switch.0 ≡ switch_of value =
       ap (λ (e : End). e.switch) ends ∙ sym (ap switch_of arrived.is) in
       record {
         r = p.r;

@@ -46,13 +46,13 @@ scan-least c so_far ns f stand is =
   where
     to-least : (least : Least 0 ns f is) (j : ℕ) (other : Side)
         → Cases 0 f.order f.side least.place (told 0 ns (Some f) is j other) other j
-        → ((j ≡ f.switch) × (other ≡ f.side))
-        ⊎ ((told 0 ns (Some f) is f.switch f.side < told 0 ns (Some f) is j other)
-        ⊎ ((told 0 ns (Some f) is f.switch f.side ≡ told 0 ns (Some f) is j other)
-        × (is_below (side_number f.side ∷ f.switch ∷ []) (side_number other ∷ j ∷ []) ≡ true)))
+        → ((j ≡ f.switch.0) × (other ≡ f.side))
+        ⊎ ((told 0 ns (Some f) is f.switch.0 f.side < told 0 ns (Some f) is j other)
+        ⊎ ((told 0 ns (Some f) is f.switch.0 f.side ≡ told 0 ns (Some f) is j other)
+        × (is_below (side_number f.side ∷ f.switch.0 ∷ []) (side_number other ∷ j ∷ []) ≡ true)))
     to-least least j other cases =
-        let place : least.place ≡ f.switch = (let s = least.switch_is in omega (arith, s)) in
-        let number : f.order ≡ told 0 ns (Some f) is f.switch f.side =
+        let place : least.place ≡ f.switch.0 = (let s = least.switch_is in omega (arith, s)) in
+        let number : f.order ≡ told 0 ns (Some f) is f.switch.0 f.side =
         least.order_is ∙ ap (λ m. told 0 ns (Some f) is m f.side) place in
         elim cases [
           | inl same ↦ inl (same.0 ∙ place, same.1)

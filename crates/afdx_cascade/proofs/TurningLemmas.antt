@@ -35,7 +35,7 @@ module _ (c : Plan) (networks : List Network) (transit : List InTransit) (time :
   not-last to young soon joined (inr (inr late)) = omega (arith, soon, late)
 
   pub turns-ended : IsLast c k g.departure
-      → TurnsAt c networks transit time ring so_far k until (Ended k value)
+      → TurnsAt c networks transit time ring so_far k until (Ended (record { 0 = k }) value)
   turns-ended silent = record {
     departure = g.departure;
     in_time = g.in_time;
@@ -49,9 +49,9 @@ module _ (c : Plan) (networks : List Network) (transit : List InTransit) (time :
   }
 
   pub turns-carried : (at : SitedPort) (when tag : ℕ) (v : InTransit) (grown : List InTransit)
-      → at.switch ≡ k → IsCarried c at when tag g.departure → v.departure ≡ value
+      → at.switch.0 ≡ k → IsCarried c at when tag g.departure → v.departure ≡ value
       → g.departure.turn.too_old ≡ false → g.departure.turn.end ≤ 1000032768000000
-      → c.far_end k g.departure.port ≡ Some (end_at v.switch v.port)
+      → c.far_end k g.departure.port ≡ Some (end_at v.switch.0 v.port)
       → grown ≡ transit ++ v ∷ [] → TurnsAt c networks grown time ring so_far k until (Carried at when tag)
   turns-carried at when tag v grown here carried own young soon joined is = record {
     departure = g.departure;
@@ -61,7 +61,7 @@ module _ (c : Plan) (networks : List Network) (transit : List InTransit) (time :
     stands = g.stands;
     next = g.next;
     first = g.first;
-    ended = λ silent. absurd (not-last (end_at v.switch v.port) young soon joined silent);
+    ended = λ silent. absurd (not-last (end_at v.switch.0 v.port) young soon joined silent);
     carried = λ to y t j early below. (
       g.carried to y t j early below,
       (let r : OnCable = record {

@@ -79,20 +79,20 @@ AreFrom until (line ∷ lines) = until ≤ line.arrival.time
 pub record TellsArrival (c : Plan) (so_far : List SwitchEvent) (at : SitedPort) (tag : ℕ)
     (verdict : Verdict) (early : ℕ) (h : SwitchEvent) : Type 0 where
   pub arrival : Arrival
-  pub is : h ≡ arriving c so_far at.switch arrival
+  pub is : h ≡ arriving c so_far at.switch.0 arrival
   pub side : at.side ≡ arrival.side
   pub port : at.port ≡ arrival.port
   pub tag_is : tag ≡ arrival.tag
   pub tells : network.Tells verdict
-      (admission_after (c.tables at.switch) (came_to at.switch so_far) arrival)
-  pub was_early : WasEarlyBy (c.tables at.switch) (came_to at.switch so_far) arrival early
+      (admission_after (c.tables at.switch.0) (came_to at.switch.0 so_far) arrival)
+  pub was_early : WasEarlyBy (c.tables at.switch.0) (came_to at.switch.0 so_far) arrival early
 
 -- what is told is the event
 abbrev pub TellsEvent : Plan → List SwitchEvent → Happened → SwitchEvent → Type 0
 TellsEvent c so_far (Ended k value) h =
-    (d : Departure) × (h ≡ event_at k (Left d)) × network.Hands value d
+    (d : Departure) × (h ≡ event_at k.0 (Left d)) × network.Hands value d
 TellsEvent c so_far (Carried at time tag) h =
-    (d : Departure) × (h ≡ event_at at.switch (Left d)) × IsCarried c at time tag d
+    (d : Departure) × (h ≡ event_at at.switch.0 (Left d)) × IsCarried c at time tag d
 TellsEvent c so_far (Came at time tag verdict early) h =
     (told : TellsArrival c so_far at tag verdict early h) × (time ≡ told.arrival.time)
 

@@ -21,8 +21,8 @@ pub record AllStand (c : Plan) (ns : List Network) (so_far : List SwitchEvent) :
 pub record FindsLeast (c : Plan) (so_far : List SwitchEvent) (f : FirstTurn) : Type 0 where
   pub order : ℕ → Side → ℕ
   pub are : AreOrders c so_far order
-  pub is : f.order ≡ order f.switch f.side
-  pub least : IsLeastOf order f.switch f.side
+  pub is : f.order ≡ order f.switch.0 f.side
+  pub least : IsLeastOf order f.switch.0 f.side
 
 -- The first of the turns that the networks tell is the least.
 abbrev pub ScanFindsLeast : Type 0

@@ -68,10 +68,10 @@ TurnKeeps =
     (ring ≡ []) ⊎ (f.order ≤ 2 * time) →
     f.order ≤ 2 * until →
     2 * until ≤ f.order + 1 →
-    TurnsAt c networks transit time ring so_far f.switch until value →
+    TurnsAt c networks transit time ring so_far f.switch.0 until value →
     length networks ≡ length old →
     ((k : ℕ) (n : Network) → slice_get networks k ≡ Some n → network.IsUntil n until) →
-    TurnIsNext c networks transit until so_far f.switch value
+    TurnIsNext c networks transit until so_far f.switch.0 value
 
 -- ---- a frame arrives
 
@@ -95,9 +95,9 @@ pub record FrontIsNext (c : Plan) (networks : List Network) (transit : List InTr
   pub next : (lines : List Line) →
       IsBeforeLine (frame_place r) lines →
       IsFirstDue c so_far lines
-      (arriving c so_far arrived.at.switch (brought r.side arrived.at.port r.turn))
+      (arriving c so_far arrived.at.switch.0 (brought r.side arrived.at.port r.turn))
   pub keeps : Keeps c networks time rest
-      (arriving c so_far arrived.at.switch (brought r.side arrived.at.port r.turn) ∷ so_far)
+      (arriving c so_far arrived.at.switch.0 (brought r.side arrived.at.port r.turn) ∷ so_far)
   pub in_transit : AreInTransit c transit rest
 
 -- So it is where no slot was still to end at its time.

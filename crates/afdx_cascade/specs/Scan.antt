@@ -26,7 +26,7 @@ earlier_of first (Some other) =
     else by_side first.side other.side first other
 
 abbrev pub first_with : ℕ → ℕ → Side → FirstTurn
-first_with order at side = record { order = order; switch = at; side = side }
+first_with order at side = record { order = order; switch = record { 0 = at }; side = side }
 
 -- the first turn of these switches, which are numbered from `at` on
 abbrev pub IsFirstFrom : ℕ → List Network → Option FirstTurn → Type 0

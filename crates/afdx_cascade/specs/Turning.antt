@@ -50,15 +50,15 @@ AreEnds c ends = (k port : ℕ) → port ≤ last_port → c.far_end k port ≡ 
 
 -- the switch at which it happened
 abbrev pub switch_of : Happened → ℕ
-switch_of (Ended k value) = k
-switch_of (Carried at time tag) = at.switch
-switch_of (Came at time tag verdict early) = at.switch
+switch_of (Ended k value) = k.0
+switch_of (Carried at time tag) = at.switch.0
+switch_of (Came at time tag verdict early) = at.switch.0
 
 -- ---- the ring
 
 -- it is that frame, and says where its cable ends
 pub record IsInTransit (c : Plan) (v : InTransit) (r : OnCable) : Type 0 where
-  pub to : c.far_end r.from.switch r.from.port ≡ Some (end_at v.switch v.port)
+  pub to : c.far_end r.from.switch r.from.port ≡ Some (end_at v.switch.0 v.port)
   pub side : giving_side v.departure ≡ r.side
   pub left : as_given v.departure ≡ left_of r.turn
 
@@ -101,15 +101,15 @@ pub record GivesAt (c : Plan) (networks : List Network) (time : ℕ) (ring : Lis
 -- what is told of a slot at a port of a switch where a cable is
 pub record IsCarried (c : Plan) (at : SitedPort) (time tag : ℕ) (d : Departure) : Type 0 where
   pub left : d.turn.too_old ≡ false
-  pub cable : (to : End) × (c.far_end at.switch d.port ≡ Some to)
+  pub cable : (to : End) × (c.far_end at.switch.0 d.port ≡ Some to)
   pub side : at.side ≡ d.side
   pub port : at.port ≡ d.port
   pub time_is : time ≡ d.turn.end
   pub tag_is : tag ≡ d.turn.entry.item.tag
 
 abbrev pub TellsTurn : Plan → ℕ → Happened → Departure → Type 0
-TellsTurn c k (Ended at value) d = (at ≡ k) × network.Hands value d
-TellsTurn c k (Carried at time tag) d = (at.switch ≡ k) × IsCarried c at time tag d
+TellsTurn c k (Ended at value) d = (at.0 ≡ k) × network.Hands value d
+TellsTurn c k (Carried at time tag) d = (at.switch.0 ≡ k) × IsCarried c at time tag d
 TellsTurn c k (Came at time tag verdict early) d = ⊥
 
 -- the network of a switch gave its first turn by then, and networks and ring stand for it too: no
@@ -144,13 +144,13 @@ pub record TurnsAt (c : Plan) (networks : List Network) (transit : List InTransi
 
 -- the network at the other end of its cable can take it
 pub record CanArrive (networks : List Network) (v : InTransit) : Type 0 where
-  pub within : v.switch < length networks
+  pub within : v.switch.0 < length networks
   pub limit : (as_given v.departure).end ≤ latest_put
   pub clock : (n : Network) →
-      slice_get networks v.switch ≡ Some n →
+      slice_get networks v.switch.0 ≡ Some n →
       network.IsUntil n (as_given v.departure).end
   pub quiet : (n : Network) →
-      slice_get networks v.switch ≡ Some n →
+      slice_get networks v.switch.0 ≡ Some n →
       network.IsQuiet n (as_given v.departure).end
 
 -- by how much an arrival came too early, if it was dropped for its link's rate; else 0
@@ -170,11 +170,11 @@ pub record ArrivesAt (c : Plan) (networks : List Network) (transit : List InTran
   pub early : ℕ
   pub is : value ≡ Came at r.turn.end r.turn.entry.item.tag verdict early
   pub side : at.side ≡ r.side
-  pub to : c.far_end r.from.switch r.from.port ≡ Some (end_at at.switch at.port)
+  pub to : c.far_end r.from.switch r.from.port ≡ Some (end_at at.switch.0 at.port)
   pub stands : Stands c networks time rest
-      (arriving c so_far at.switch (brought r.side at.port r.turn) ∷ so_far)
+      (arriving c so_far at.switch.0 (brought r.side at.port r.turn) ∷ so_far)
   pub in_transit : AreInTransit c transit rest
-  pub tells : network.Tells verdict (admission_after (c.tables at.switch)
-      (came_to at.switch so_far) (brought r.side at.port r.turn))
-  pub was_early : WasEarlyBy (c.tables at.switch) (came_to at.switch so_far)
+  pub tells : network.Tells verdict (admission_after (c.tables at.switch.0)
+      (came_to at.switch.0 so_far) (brought r.side at.port r.turn))
+  pub was_early : WasEarlyBy (c.tables at.switch.0) (came_to at.switch.0 so_far)
       (brought r.side at.port r.turn) early

@@ -1,5 +1,5 @@
-//! A frame arrives at one of several switches, or a turn of one of them is over. Switches have the
-//! numbers of their networks' places, from 0.
+//! A frame arrives at one of several switches, or a turn of one of them is over. Of networks, the
+//! one of a switch stands at its place.
 
 ghost use Rattle.std.specs.Prelude.{◌≡◌, ℕ, ◌<◌, ◌≤◌, ◌∷◌, List, OnOk, IfOk, OnErr, IfSome, IfNone, None, Some, length, slice_get};
 ghost use Rattle.afdx_frame.specs.Parts.{bytes_of};
@@ -23,6 +23,7 @@ ghost use Rattle.afdx_switch.specs.Verdicts.{shape_fault};
 ghost use Rattle.afdx_cascade.specs.Turning.{GivesAt, WasEarlyBy};
 
 use crate::told::SitedPort;
+use afdx_config::SwitchId;
 use afdx_frame::Checked;
 use afdx_network::Network;
 use afdx_police::Reason;
@@ -38,65 +39,69 @@ pub(crate) fn arrive_at(
     tag: u64,
     frame: Checked<'_>,
 ) -> Result<Verdict, AllocError>
-    requires within { to.switch < length networks.old }
+    requires within { to.switch.0 < length networks.old }
     requires limit { time ≤ latest_put }
     requires clock { (k : ℕ) (n : At) → slice_get networks.old k ≡ Some n →
         network.IsUntil n time }
-    requires quiet { (n : At) → slice_get networks.old to.switch ≡ Some n →
+    requires quiet { (n : At) → slice_get networks.old to.switch.0 ≡ Some n →
         network.IsQuiet n time }
     ensures clock { (k : ℕ) (n : At) → slice_get networks.new k ≡ Some n →
         network.IsUntil n time }
-    ensures still { (n : At) → slice_get networks.new to.switch ≡ Some n →
+    ensures still { (n : At) → slice_get networks.new to.switch.0 ≡ Some n →
         network.IsQuiet n time }
     ensures length { length networks.new ≡ length networks.old }
-    ensures others { AreOthersSame to.switch networks.old networks.new }
+    ensures others { AreOthersSame to.switch.0 networks.old networks.new }
     ensures stands { (c : Plan) (at : ℕ) (ring : List OnCable) (so_far : List SwitchEvent) →
-        Stands c networks.old at ring so_far → c.far_end to.switch to.port ≡ None →
+        Stands c networks.old at ring so_far → c.far_end to.switch.0 to.port ≡ None →
         let x = arrival_with tag time to.side to.port (bytes_of frame.entry) in
-        OnOk result (Stands c networks.new at ring (arriving c so_far to.switch x ∷ so_far)) }
+        OnOk result (Stands c networks.new at ring (arriving c so_far to.switch.0 x ∷ so_far)) }
     ensures verdict { (c : Plan) (at : ℕ) (ring : List OnCable) (so_far : List SwitchEvent) →
         Stands c networks.old at ring so_far →
         let x = arrival_with tag time to.side to.port (bytes_of frame.entry) in
         IfOk result (λ verdict. network.Tells verdict
-        (admission_after (c.tables to.switch) (came_to to.switch so_far) x)) }
+        (admission_after (c.tables to.switch.0) (came_to to.switch.0 so_far) x)) }
     ensures judged { (c : Plan) (at : ℕ) (ring : List OnCable) (so_far : List SwitchEvent) →
         Stands c networks.old at ring so_far →
         let x = arrival_with tag time to.side to.port (bytes_of frame.entry) in
-        OnErr result (shape_fault (c.tables to.switch) x ≡ None) }
+        OnErr result (shape_fault (c.tables to.switch.0) x ≡ None) }
     ensures refused { OnErr result (networks.new ≡ networks.old) }
 {
-    networks[to.switch].arrive(to.side, time, to.port, tag, frame)
+    let place = to.switch.index();
+    networks[place].arrive(to.side, time, to.port, tag, frame)
 }
 
 /// By how many nanoseconds a frame comes too early that arrives at a switch at `time`, if none
 /// comes before it.
 pub(crate) fn early_at(networks: &[Network], to: SitedPort, time: u64, frame: Checked<'_>) -> u64
-    requires within { to.switch < length networks.now }
-    requires clock { (n : At) → slice_get networks.now to.switch ≡ Some n → network.IsUntil n time }
+    requires within { to.switch.0 < length networks.now }
+    requires clock { (n : At) → slice_get networks.now to.switch.0 ≡ Some n →
+        network.IsUntil n time }
     ensures { (c : Plan) (so_far : List SwitchEvent) (tag : ℕ) → AllStand c networks.now so_far →
         let x = arrival_with tag time to.side to.port (bytes_of frame.entry) in
-        shape_fault (c.tables to.switch) x ≡ None →
-        IsEarlyBy (c.tables to.switch) (came_to to.switch so_far) x result }
+        shape_fault (c.tables to.switch.0) x ≡ None →
+        IsEarlyBy (c.tables to.switch.0) (came_to to.switch.0 so_far) x result }
 {
-    networks[to.switch].early(to.side, time, to.port, frame)
+    let place = to.switch.index();
+    networks[place].early(to.side, time, to.port, frame)
 }
 
 /// The next turn of a switch that is given by `until`.
-pub(crate) fn take_at(networks: &mut [Network], switch: usize, until: u64) -> Option<Departure>
-    requires within { switch < length networks.old }
+pub(crate) fn take_at(networks: &mut [Network], switch: SwitchId, until: u64) -> Option<Departure>
+    requires within { switch.0 < length networks.old }
     requires clock { (k : ℕ) (n : At) → slice_get networks.old k ≡ Some n →
         network.IsUntil n until }
     ensures clock { (k : ℕ) (n : At) → slice_get networks.new k ≡ Some n →
         network.IsUntil n until }
     ensures length { length networks.new ≡ length networks.old }
-    ensures others { AreOthersSame switch networks.old networks.new }
-    ensures none { (n : At) → slice_get networks.old switch ≡ Some n →
+    ensures others { AreOthersSame switch.0 networks.old networks.new }
+    ensures none { (n : At) → slice_get networks.old switch.0 ≡ Some n →
         IfNone result (network.IsQuiet n until) }
     ensures gives { (c : Plan) (at : ℕ) (ring : List OnCable) (so_far : List SwitchEvent) →
         IsPlan c → Stands c networks.old at ring so_far →
-        IfSome result (GivesAt c networks.new at ring so_far switch until) }
+        IfSome result (GivesAt c networks.new at ring so_far switch.0 until) }
 {
-    networks[switch].take(until)
+    let place = switch.index();
+    networks[place].take(until)
 }
 
 /// A frame that left another switch arrives at the end of its cable, at a port of this one, when it
@@ -104,41 +109,43 @@ pub(crate) fn take_at(networks: &mut [Network], switch: usize, until: u64) -> Op
 /// for its shape needs none.
 pub(crate) fn bring_at(
     networks: &mut [Network],
-    switch: usize,
+    switch: SwitchId,
     port: u8,
     departure: &Departure,
 ) -> Result<Verdict, AllocError>
-    requires within { switch < length networks.old }
+    requires within { switch.0 < length networks.old }
     requires limit { (as_given departure.now).end ≤ latest_put }
     requires clock { (k : ℕ) (n : At) → slice_get networks.old k ≡ Some n →
         network.IsUntil n (as_given departure.now).end }
-    requires quiet { (n : At) → slice_get networks.old switch ≡ Some n →
+    requires quiet { (n : At) → slice_get networks.old switch.0 ≡ Some n →
         network.IsQuiet n (as_given departure.now).end }
     ensures clock { (k : ℕ) (n : At) → slice_get networks.new k ≡ Some n →
         network.IsUntil n (as_given departure.now).end }
-    ensures still { (n : At) → slice_get networks.new switch ≡ Some n →
+    ensures still { (n : At) → slice_get networks.new switch.0 ≡ Some n →
         network.IsQuiet n (as_given departure.now).end }
     ensures length { length networks.new ≡ length networks.old }
-    ensures others { AreOthersSame switch networks.old networks.new }
+    ensures others { AreOthersSame switch.0 networks.old networks.new }
     ensures stands { (c : Plan) (at : ℕ) (r : OnCable) (rest : List OnCable)
         (so_far : List SwitchEvent) → IsPlan c →
         Stands c networks.old at (r ∷ rest) so_far →
-        c.far_end r.from.switch r.from.port ≡ Some (end_at switch port) →
+        c.far_end r.from.switch r.from.port ≡ Some (end_at switch.0 port) →
         giving_side departure.now ≡ r.side → as_given departure.now ≡ left_of r.turn →
         OnOk result (Stands c networks.new at rest
-        (arriving c so_far switch (brought r.side port r.turn) ∷ so_far)) }
+        (arriving c so_far switch.0 (brought r.side port r.turn) ∷ so_far)) }
     ensures verdict { (c : Plan) (at : ℕ) (r : OnCable) (rest : List OnCable)
         (so_far : List SwitchEvent) → Stands c networks.old at (r ∷ rest) so_far →
         giving_side departure.now ≡ r.side → as_given departure.now ≡ left_of r.turn →
         IfOk result (λ verdict. network.Tells verdict
-        (admission_after (c.tables switch) (came_to switch so_far) (brought r.side port r.turn))) }
+        (admission_after (c.tables switch.0) (came_to switch.0 so_far)
+        (brought r.side port r.turn))) }
     ensures judged { (c : Plan) (at : ℕ) (r : OnCable) (rest : List OnCable)
         (so_far : List SwitchEvent) → Stands c networks.old at (r ∷ rest) so_far →
         giving_side departure.now ≡ r.side → as_given departure.now ≡ left_of r.turn →
-        OnErr result (shape_fault (c.tables switch) (brought r.side port r.turn) ≡ None) }
+        OnErr result (shape_fault (c.tables switch.0) (brought r.side port r.turn) ≡ None) }
     ensures refused { OnErr result (networks.new ≡ networks.old) }
 {
-    networks[switch].arrive(
+    let place = switch.index();
+    networks[place].arrive(
         departure.side(),
         departure.time(),
         port,
@@ -147,12 +154,13 @@ pub(crate) fn bring_at(
     )
 }
 
-/// Gives a departure back to the switch that it was from, if there is one of this number.
-pub(crate) fn give_back_at(networks: &mut [Network], switch: usize, departure: Departure)
+/// Gives a departure back to the switch that it was from, if it is one of these.
+pub(crate) fn give_back_at(networks: &mut [Network], switch: SwitchId, departure: Departure)
     ensures { networks.new ≡ networks.old }
 {
-    if switch < networks.len() {
-        networks[switch].give_back(departure);
+    let place = switch.index();
+    if place < networks.len() {
+        networks[place].give_back(departure);
     }
 }
 
@@ -170,20 +178,20 @@ fn is_over_rate(verdict: Verdict) -> bool
 /// this one, with this verdict, if it was dropped for its link's rate; else 0.
 pub(crate) fn early_by(
     networks: &[Network],
-    switch: usize,
+    switch: SwitchId,
     port: u8,
     departure: &Departure,
     verdict: Verdict,
 ) -> u64
-    requires within { switch < length networks.now }
-    requires clock { (n : At) → slice_get networks.now switch ≡ Some n →
+    requires within { switch.0 < length networks.now }
+    requires clock { (n : At) → slice_get networks.now switch.0 ≡ Some n →
         network.IsUntil n (as_given departure.now).end }
     ensures { (c : Plan) (so_far : List SwitchEvent) (r : OnCable) →
         let x = brought r.side port r.turn in
-        AllStand c networks.now (arriving c so_far switch x ∷ so_far) →
+        AllStand c networks.now (arriving c so_far switch.0 x ∷ so_far) →
         giving_side departure.now ≡ r.side → as_given departure.now ≡ left_of r.turn →
-        network.Tells verdict (admission_after (c.tables switch) (came_to switch so_far) x) →
-        WasEarlyBy (c.tables switch) (came_to switch so_far) x result }
+        network.Tells verdict (admission_after (c.tables switch.0) (came_to switch.0 so_far) x) →
+        WasEarlyBy (c.tables switch.0) (came_to switch.0 so_far) x result }
 {
     if !is_over_rate(verdict) {
         return 0;

@@ -39,7 +39,7 @@ pub(crate) fn new_keys(alloc: Global, networks: &[Network]) -> Result<Vec<u64>, 
 {
     let mut keys = Vec::new(alloc);
     for place in 0..networks.len() {
-        keys.push(key_of(networks, place))?;
+        keys.push(key_of(networks, SwitchId::nth(place)))?;
     }
     Ok(keys)
 }
@@ -53,7 +53,7 @@ pub(crate) fn new_ends(
 {
     let mut ends = Vec::new(alloc);
     for place in 0..ENTRIES * switches.count() {
-        let switch = SwitchId((place / ENTRIES) as u8);
+        let switch = SwitchId::nth(place / ENTRIES);
         ends.push(switches.far_end(switch, (place % ENTRIES) as u8))?;
     }
     Ok(ends)

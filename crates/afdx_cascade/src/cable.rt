@@ -4,27 +4,27 @@ ghost use Rattle.std.specs.Prelude.{◌≡◌, ◌+◌, ◌*◌, ◌<◌, slice_
 ghost use Rattle.afdx_cascade.specs.Scan.{switches_most};
 ghost use Rattle.afdx_cascade.specs.Turning.{entry_in};
 
-use afdx_config::FarEnd;
+use afdx_config::{FarEnd, SwitchId};
 use afdx_switch::Departure;
 
 /// How many entries a switch has in a table of the ends of cables: for the numbers 0 to 24, of
 /// which 1 to 24 are its ports.
 pub(crate) const ENTRIES: usize = 25;
 
-/// A frame on a cable, which ends at a port of the switch of this number, with the number of the
-/// switch that it left.
+/// A frame on a cable, which ends at a port of this switch, with the switch that it left.
 #[derive(Drop)]
 pub(crate) struct InTransit {
-    pub switch: usize,
+    pub switch: SwitchId,
     pub port: u8,
-    pub from: usize,
+    pub from: SwitchId,
     pub departure: Departure,
 }
 
-/// The other end of the cable at a port of the switch of this number, if one is there.
-pub(crate) fn far_end(ends: &[Option<FarEnd>], switch: usize, port: u8) -> Option<FarEnd>
-    requires { switch < switches_most }
-    ensures { result ≡ entry_in (slice_get ends.now (switch * 25 + port)) }
+/// The other end of the cable at a port of a switch, if one is there.
+pub(crate) fn far_end(ends: &[Option<FarEnd>], switch: SwitchId, port: u8) -> Option<FarEnd>
+    requires { switch.0 < switches_most }
+    ensures { result ≡ entry_in (slice_get ends.now (switch.0 * 25 + port)) }
 {
-    *ends.get(switch * ENTRIES + port as usize)?
+    let first = switch.index() * ENTRIES;
+    *ends.get(first + usize::from(port))?
 }

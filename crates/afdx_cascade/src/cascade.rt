@@ -10,7 +10,7 @@ use crate::cable::InTransit;
 use crate::scan::{first_of, least_of, renew};
 use crate::taking::{bring_next, turn_next};
 use crate::told::{Happened, SitedPort};
-use afdx_config::{FarEnd, Switches};
+use afdx_config::{FarEnd, SwitchId, Switches};
 use afdx_frame::{Checked, Side};
 use afdx_network::Network;
 use afdx_switch::Verdict;
@@ -59,8 +59,8 @@ impl Cascade {
         })
     }
 
-    /// A frame of the list arrives at `time`, in ns, at a port of a side's switch of this number
-    /// where no cable is. That switch filters and polices it and offers it to the output ports of
+    /// A frame of the list arrives at `time`, in ns, at a port of a switch of a side, where no
+    /// cable is. That switch filters and polices it and offers it to the output ports of
     /// its link.
     ///
     /// `time` isn't before the last time used and is at most 1,000,032,768,000,000;
@@ -69,24 +69,24 @@ impl Cascade {
     /// shape needs none.
     pub fn arrive(
         &mut self,
-        switch: usize,
+        switch: SwitchId,
         side: Side,
         time: u64,
         port: u8,
         tag: u64,
         frame: Checked<'_>,
     ) -> Result<Verdict, AllocError>
-        requires within { switch < switch_count self.old }
+        requires within { switch.0 < switch_count self.old }
         requires limit { time ≤ latest_put }
         requires clock { IsUntil self.old time }
         requires quiet { IsQuiet self.old time }
         ensures next { (c : Plan) (so_far : List SwitchEvent) → StandsFor c self.old so_far →
-            c.far_end switch port ≡ None →
-            let line = line_at switch (arrival_with tag time side port (bytes_of frame.entry)) in
+            c.far_end switch.0 port ≡ None →
+            let line = line_at switch.0 (arrival_with tag time side port (bytes_of frame.entry)) in
             IfOk result (ArrivesNext c self.new so_far line) }
         ensures judged { (c : Plan) (so_far : List SwitchEvent) → StandsFor c self.old so_far →
             let x = arrival_with tag time side port (bytes_of frame.entry) in
-            OnErr result (shape_fault (c.tables switch) x ≡ None) }
+            OnErr result (shape_fault (c.tables switch.0) x ≡ None) }
         ensures refused { OnErr result (IsUnchanged self.old self.new) }
     {
         let to = SitedPort { switch, side, port };
@@ -95,17 +95,24 @@ impl Cascade {
         Ok(verdict)
     }
 
-    /// By how many nanoseconds a frame comes too early that arrives at a side's switch of this
-    /// number at `time`, if none comes before it: the least wait after which its link's account
+    /// By how many nanoseconds a frame comes too early that arrives at a switch of a side at
+    /// `time`, if none comes before it: the least wait after which its link's account
     /// there covers it, 0 for one that would be accepted. Of one with something wrong in its shape
     /// it says nothing.
-    pub fn early(&self, switch: usize, side: Side, time: u64, port: u8, frame: Checked<'_>) -> u64
-        requires within { switch < switch_count self.now }
+    pub fn early(
+        &self,
+        switch: SwitchId,
+        side: Side,
+        time: u64,
+        port: u8,
+        frame: Checked<'_>,
+    ) -> u64
+        requires within { switch.0 < switch_count self.now }
         requires clock { IsUntil self.now time }
         ensures { (c : Plan) (so_far : List SwitchEvent) (tag : ℕ) → StandsFor c self.now so_far →
             let arrival = arrival_with tag time side port (bytes_of frame.entry) in
-            shape_fault (c.tables switch) arrival ≡ None →
-            IsEarlyBy (c.tables switch) (came_to switch so_far) arrival result }
+            shape_fault (c.tables switch.0) arrival ≡ None →
+            IsEarlyBy (c.tables switch.0) (came_to switch.0 so_far) arrival result }
     {
         early_at(
             &self.networks,

@@ -7,6 +7,7 @@ ghost use Rattle.afdx_network.specs.declared.network.Network.{Network as At};
 ghost use Rattle.afdx_cascade.specs.Keys.{AreKeys, AreOthersSame, IsKey, IsLeast};
 ghost use Rattle.afdx_cascade.specs.Scan.{IsFirstFrom, switches_most};
 
+use afdx_config::SwitchId;
 use afdx_frame::Side;
 use afdx_network::Network;
 
@@ -16,12 +17,12 @@ const KEY_SWITCHES: u64 = 32;
 /// How many numbers are compared at a time.
 const GROUP: usize = 4;
 
-/// The first turn of several switches of both sides: where it stands in the order of turns, and the
-/// number and side of its switch.
+/// The first turn of several switches of both sides: where it stands in the order of turns, and its
+/// switch and side.
 #[derive(Clone, Copy, Debug)]
 pub(crate) struct FirstTurn {
     pub order: u64,
-    pub switch: usize,
+    pub switch: SwitchId,
     pub side: Side,
 }
 
@@ -43,15 +44,16 @@ fn side_of(number: u64) -> Side
     if number == 0 { Side::A } else { Side::B }
 }
 
-/// The key of the switch of this number: where its first turn stands in the order of turns, below
-/// that the turn's side, and below that the number. So the least key of several switches is that of
+/// The key of a switch: where its first turn stands in the order of turns, below that the turn's
+/// side, and below that the switch's place. So the least key of several switches is that of
 /// the turn that goes first: at one place by side, then by switch.
-pub(crate) fn key_of(networks: &[Network], switch: usize) -> u64
-    requires { switch < length networks.now }
-    ensures { (n : At) → slice_get networks.now switch ≡ Some n → IsKey switch n result }
+pub(crate) fn key_of(networks: &[Network], switch: SwitchId) -> u64
+    requires { switch.0 < length networks.now }
+    ensures { (n : At) → slice_get networks.now switch.0 ≡ Some n → IsKey switch.0 n result }
 {
-    let (order, side) = networks[switch].order();
-    2 * KEY_SWITCHES * order.number() + KEY_SWITCHES * number_of(side) + switch as u64
+    let place = switch.index();
+    let (order, side) = networks[place].order();
+    2 * KEY_SWITCHES * order.number() + KEY_SWITCHES * number_of(side) + u64::from(switch.0)
 }
 
 /// The least of some numbers, of which four are compared at a time: that takes fewer instructions
@@ -75,22 +77,23 @@ pub(crate) fn least_of(numbers: &[u64]) -> u64
     least
 }
 
-/// Finds the key of the switch of this number anew, which had an event; the others had none.
+/// Finds the key of a switch anew, which had an event; the others had none.
 /// `least` was the least of all keys, and the result is the least of them now. All are compared
 /// only if that was this switch's key, and it has grown.
-pub(crate) fn renew(keys: &mut Vec<u64>, least: u64, networks: &[Network], switch: usize) -> u64
-    requires { switch < length networks.now }
+pub(crate) fn renew(keys: &mut Vec<u64>, least: u64, networks: &[Network], switch: SwitchId) -> u64
+    requires { switch.0 < length networks.now }
     ensures keys { (old : List At) → AreKeys old keys.old.items →
-        AreOthersSame switch old networks.now → length networks.now ≡ length old →
+        AreOthersSame switch.0 old networks.now → length networks.now ≡ length old →
         AreKeys networks.now keys.new.items }
     ensures least { IsLeast keys.old.items least → IsLeast keys.new.items result }
 {
-    if switch >= keys.len() {
+    let place = switch.index();
+    if place >= keys.len() {
         return least;
     }
-    let before = keys[switch];
+    let before = keys[place];
     let key = key_of(networks, switch);
-    keys[switch] = key;
+    keys[place] = key;
     if key <= least {
         return key;
     }
@@ -106,12 +109,12 @@ pub(crate) fn first_of(least: u64) -> FirstTurn
     ensures first { (networks : List At) (keys : List ℕ) → length networks ≤ switches_most →
         AreKeys networks keys → IsLeast keys least → IsFirstFrom 0 networks (Some result) }
     ensures within { (networks : List At) (keys : List ℕ) → length networks ≤ switches_most →
-        AreKeys networks keys → IsLeast keys least → result.switch < length networks }
+        AreKeys networks keys → IsLeast keys least → result.switch.0 < length networks }
 {
     let side = side_of(least / KEY_SWITCHES % 2);
     FirstTurn {
         order: least / (2 * KEY_SWITCHES),
-        switch: (least % KEY_SWITCHES) as usize,
+        switch: SwitchId((least % KEY_SWITCHES) as u8),
         side,
     }
 }

@@ -102,7 +102,7 @@ pub(crate) fn turn_next(
         Keeps c networks.old time ring so_far → IsEarly first.order time ring →
         AreEnds c ends.now → AreInTransit c transit.old.items ring →
         IfOk result (λ o. IfSome o
-        (TurnsNext c networks.new transit.new.items until so_far first.switch)) }
+        (TurnsNext c networks.new transit.new.items until so_far first.switch.0)) }
     ensures quiet { IfOk result (λ o. IfNone o ((k : ℕ) (n : At) →
         slice_get networks.new k ≡ Some n → network.IsQuiet n until)) }
     ensures empty { (c : Plan) (time : ℕ) (ring : List OnCable) (so_far : List SwitchEvent) →
@@ -114,10 +114,10 @@ pub(crate) fn turn_next(
     ensures same { IfOk result (λ o. IfNone o ((networks.new ≡ networks.old)
         × (transit.new.items ≡ transit.old.items))) }
     ensures length { length networks.new ≡ length networks.old }
-    ensures others { AreOthersSame first.switch networks.old networks.new }
+    ensures others { AreOthersSame first.switch.0 networks.old networks.new }
     ensures judged { (c : Plan) (time : ℕ) (ring : List OnCable) (so_far : List SwitchEvent) →
         Keeps c networks.old time ring so_far → IsEarly first.order time ring →
-        OnErr result (LacksForTurn c until so_far first.switch) }
+        OnErr result (LacksForTurn c until so_far first.switch.0) }
     ensures refused { OnErr result ((networks.new ≡ networks.old)
         × (transit.new.items ≡ transit.old.items)) }
 {

@@ -3,13 +3,14 @@
 ghost use Rattle.std.specs.Prelude.{◌≡◌};
 ghost use Rattle.afdx_cascade.specs.Turning.{switch_of};
 
+use afdx_config::SwitchId;
 use afdx_frame::Side;
 use afdx_switch::{Departure, Verdict};
 
-/// A port of one of several switches, which have the numbers of their places in the file.
+/// A port of one of several switches.
 #[derive(Clone, Copy, Debug)]
 pub struct SitedPort {
-    pub switch: usize,
+    pub switch: SwitchId,
     pub side: Side,
     pub port: u8,
 }
@@ -17,9 +18,9 @@ pub struct SitedPort {
 /// What happened at one of several switches.
 #[derive(Drop)]
 pub enum Happened {
-    /// A frame left the switch of this number, and the switches, or was dropped there.
+    /// A frame left this switch, and the switches, or was dropped there.
     Ended {
-        switch: usize,
+        switch: SwitchId,
         departure: Departure,
     },
     /// A frame left this port at this time, in ns, and a cable carries it now.
@@ -40,9 +41,9 @@ pub enum Happened {
 }
 
 impl Happened {
-    /// The number of the switch at which it happened.
-    pub(crate) fn switch(&self) -> usize
-        ensures { result ≡ switch_of self.now }
+    /// The switch at which it happened.
+    pub(crate) fn switch(&self) -> SwitchId
+        ensures { result.0 ≡ switch_of self.now }
     {
         match self {
             Happened::Ended { switch, .. } => *switch,

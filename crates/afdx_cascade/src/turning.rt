@@ -19,7 +19,7 @@ ghost use Rattle.afdx_cascade.specs.Turning.{CanArrive, switch_of};
 use crate::arriving::{bring_at, early_by, give_back_at, take_at};
 use crate::cable::{InTransit, far_end};
 use crate::told::{Happened, SitedPort};
-use afdx_config::FarEnd;
+use afdx_config::{FarEnd, SwitchId};
 use afdx_network::Network;
 use std::alloc::AllocError;
 use std::collections::VecDeque;
@@ -33,10 +33,10 @@ pub(crate) fn turn_at(
     networks: &mut [Network],
     ends: &[Option<FarEnd>],
     transit: &mut VecDeque<InTransit>,
-    switch: usize,
+    switch: SwitchId,
     until: u64,
 ) -> Option<Happened>
-    requires within { switch < length networks.old }
+    requires within { switch.0 < length networks.old }
     requires few { length networks.old ≤ switches_most }
     requires clock { (k : ℕ) (n : At) → slice_get networks.old k ≡ Some n →
         network.IsUntil n until }
@@ -44,13 +44,13 @@ pub(crate) fn turn_at(
     ensures clock { (k : ℕ) (n : At) → slice_get networks.new k ≡ Some n →
         network.IsUntil n until }
     ensures length { length networks.new ≡ length networks.old }
-    ensures others { AreOthersSame switch networks.old networks.new }
-    ensures none { (n : At) → slice_get networks.old switch ≡ Some n →
+    ensures others { AreOthersSame switch.0 networks.old networks.new }
+    ensures none { (n : At) → slice_get networks.old switch.0 ≡ Some n →
         IfNone result (network.IsQuiet n until) }
     ensures gives { (c : Plan) (at : ℕ) (ring : List OnCable) (so_far : List SwitchEvent) →
         IsPlan c → AreEnds c ends.now → Stands c networks.old at ring so_far →
         AreInTransit c transit.old.items ring →
-        IfSome result (TurnsAt c networks.new transit.new.items at ring so_far switch until) }
+        IfSome result (TurnsAt c networks.new transit.new.items at ring so_far switch.0 until) }
 {
     let departure = take_at(networks, switch, until)?;
     if departure.too_old() {
@@ -67,7 +67,7 @@ pub(crate) fn turn_at(
             let side = departure.side();
             let tag = departure.tag();
             transit.push_back_reserved(InTransit {
-                switch: to.switch.0 as usize,
+                switch: to.switch,
                 port: to.port,
                 from: switch,
                 departure,
@@ -92,7 +92,7 @@ pub(crate) fn front_at(
         (k : ℕ) (n : At) → slice_get networks.new k ≡ Some n →
         network.IsUntil n (as_given v.departure).end }
     ensures still { (v : InTransit) → slice_get transit.old.items 0 ≡ Some v →
-        (n : At) → slice_get networks.new v.switch ≡ Some n →
+        (n : At) → slice_get networks.new v.switch.0 ≡ Some n →
         network.IsQuiet n (as_given v.departure).end }
     ensures length { length networks.new ≡ length networks.old }
     ensures within { IfOk result (λ b. switch_of b < length networks.old) }
@@ -106,7 +106,7 @@ pub(crate) fn front_at(
         (so_far : List SwitchEvent) (v : InTransit) →
         Stands c networks.old at (r ∷ rest) so_far →
         slice_get transit.old.items 0 ≡ Some v → IsInTransit c v r →
-        OnErr result (shape_fault (c.tables v.switch) (brought r.side v.port r.turn) ≡ None) }
+        OnErr result (shape_fault (c.tables v.switch.0) (brought r.side v.port r.turn) ≡ None) }
     ensures refused { OnErr result ((networks.new ≡ networks.old)
         × (transit.new.items ≡ transit.old.items)) }
 {

@@ -108,7 +108,7 @@ pub fn conform<P: Tapping + Drop, A: RunInput<P, Seen>, O: Sink, E: Write>(
         (status ≡ 0) ⊎ (status ≡ 1) ⊎ (status ≡ 2) ⊎ (status ≡ 3) ⊎ (status ≡ 4)
         ⊎ (status ≡ 5) }
     ensures device { (A.failed inputs.new || O.failed output.new) ≡ true → result.status ≡ 4 }
-    ensures asked { A.IsAskedFew options inputs.old inputs.new }
+    ensures asked { A.IsAskedFew true inputs.old inputs.new }
 
     // The command ends as a run by the tables of the switch answered; or the configuration isn't
     // read, or has no such switch: then nothing is read and nothing is written.

@@ -1,6 +1,6 @@
 //! A run over what came and what left, whatever gives the frames.
 
-ghost use Rattle.std.specs.Prelude.{◌≡◌, [], IfSome, OnOk, false};
+ghost use Rattle.std.specs.Prelude.{◌≡◌, [], IfSome, OnOk, false, true};
 ghost use Rattle.afdx_command_conform.specs.ChoicesOf.{choices_of};
 ghost use Rattle.afdx_command_conform.specs.Ran as spec;
 ghost use Rattle.afdx_command_conform.specs.Ran.{ConformAnswers, RunTells};
@@ -80,7 +80,7 @@ pub fn run_judged<P, A: RunInput<P, Seen>, J: Judge, O: Sink>(
     ensures ended { OnOk result (A.ended inputs.new) }
     ensures read { A.failed inputs.new ≡ is_failed_read result }
     ensures write { O.failed output.new ≡ is_failed_write result }
-    ensures asked { A.IsAskedFew options inputs.old inputs.new }
+    ensures asked { A.IsAskedFew true inputs.old inputs.new }
 
     // Where the bytes are known: what is answered, and told, for the frames that it takes.
     ensures answer { let start = O.written output.old in (k : J.Rules) →
@@ -128,7 +128,7 @@ pub fn run_conform<P: Tapping + Drop, A: RunInput<P, Seen>, O: Sink>(
     ensures ended { OnOk result (A.ended inputs.new) }
     ensures read { A.failed inputs.new ≡ is_failed_read result }
     ensures write { O.failed output.new ≡ is_failed_write result }
-    ensures asked { A.IsAskedFew options inputs.old inputs.new }
+    ensures asked { A.IsAskedFew true inputs.old inputs.new }
 
     // Where the bytes are known: what is answered and written for the frames that it takes.
     ensures answer { IfSome (A.known inputs.old) (λ bytes. ConformAnswers

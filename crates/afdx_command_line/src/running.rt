@@ -12,10 +12,11 @@ use afdx_command_words::{
     Refused, ReplayOptions, SendWords, pair_options, recording_options, wants_summary,
 };
 use afdx_frame::BySide;
+use afdx_input_lines::Heading;
 use afdx_replay::{
     CommandedRule, Ended, InputEnded, ListEnded, NumberLine, Output, Peeked, Placing,
-    ReplaySettings, RunInput, Sink, SitedInput, Watched, finish, list_and_count, police_input,
-    replay_input, send_and_count,
+    ReplaySettings, RunInput, Sink, Watched, finish, list_and_count, police_input, replay_input,
+    send_and_count,
 };
 use afdx_text::WholeLines;
 use clap::ArgMatches;
@@ -152,7 +153,12 @@ fn ended_of(listed: ListEnded) -> InputEnded {
 }
 
 /// Makes the run over what an input gives.
-fn run_over<P: Placing + Drop, A: SitedInput<P> + RunInput<P, NumberLine>, O: Sink, E: Write>(
+fn run_over<
+    P: Placing + Drop,
+    A: RunInput<P, Heading> + RunInput<P, NumberLine>,
+    O: Sink,
+    E: Write,
+>(
     rt: &HostRuntime,
     run: &Run<'_>,
     options: P,

@@ -1,6 +1,6 @@
 //! A run over what systems sent, whatever gives the frames.
 
-ghost use Rattle.std.specs.Prelude.{◌≡◌, OnOk, false};
+ghost use Rattle.std.specs.Prelude.{◌≡◌, OnOk, false, true};
 ghost use Rattle.afdx_command_senders.specs.SenderAnswers.{SendersAnswer};
 ghost use Rattle.afdx_input_lines.specs.Calls.{is_failed_read, is_failed_write};
 ghost use Rattle.afdx_input_runs.specs.Arrivals.{TakesFrames};
@@ -38,7 +38,7 @@ pub(crate) fn run_senders<P: Tapping + Drop, A: RunInput<P, Seen>, O: Sink>(
     ensures ended { OnOk result (A.ended inputs.new) }
     ensures read { A.failed inputs.new ≡ is_failed_read result }
     ensures write { O.failed output.new ≡ is_failed_write result }
-    ensures asked { A.IsAskedFew options inputs.old inputs.new }
+    ensures asked { A.IsAskedFew true inputs.old inputs.new }
 
     // Where the bytes are known: what is answered and written for the frames that it takes.
     ensures answer { SendersAnswer (A.known inputs.old) (A.Takes TakesFrames options) inputs.new

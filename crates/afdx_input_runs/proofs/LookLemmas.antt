@@ -12,7 +12,6 @@ use Rattle.afdx_input_files.specs.Reading.{opening, recorded_from}
 use Rattle.afdx_input_sources.specs.Engine.{Item}
 use Rattle.afdx_input_sources.specs.ListRun.{ListAnswers}
 use Rattle.afdx_input_sources.specs.Lists.{Kind, items_of}
-use Rattle.afdx_input_sources.specs.declared.becoming.RecordingOptions.{RecordingOptions}
 use Rattle.afdx_input_sources.specs.Becoming.{Options}
 use Rattle.afdx_input_sources.specs.Claims.{Ports}
 use Rattle.afdx_input_runs.specs.InputRun.{is_recorded, is_read_recorded, InputAnswers, IsAskedBy, IsAskedFew}
@@ -47,16 +46,16 @@ later-asked true left rest old between new few h = later-once left rest old betw
 later-asked false left rest old between new few h = omega (arith, few, h)
 
 -- the calls with those that looked
-pub looked-asked : (options : RecordingOptions) (left looked rest : Option (List ℕ)) (seen : List ℕ)
+pub looked-asked : (settled : Bool) (left looked rest : Option (List ℕ)) (seen : List ℕ)
     (old between new : ℕ) → Keeps left looked → IfSome left (λ bytes. seen ≡ take looked_at bytes)
-    → between ≤ old + looked_at → IsAskedBy (is_recorded options seen) looked rest between new
-    → IsAskedFew options left rest old new
-looked-asked options None looked rest seen old between new k e few h = tt
-looked-asked options (Some bytes) None rest seen old between new k e few h = absurd k
-looked-asked options (Some bytes) (Some same) rest seen old between new k e few h =
-    later-asked (is_read_recorded options (Some bytes)) (Some bytes) rest (old + looked_at) between new few
-    (subst (λ (xs : List ℕ). IsAskedBy (is_recorded options xs) (Some bytes) rest between new) e
-    (subst (λ (xs : List ℕ). IsAskedBy (is_recorded options seen) (Some xs) rest between new) k h))
+    → between ≤ old + looked_at → IsAskedBy (is_recorded settled seen) looked rest between new
+    → IsAskedFew settled left rest old new
+looked-asked settled None looked rest seen old between new k e few h = tt
+looked-asked settled (Some bytes) None rest seen old between new k e few h = absurd k
+looked-asked settled (Some bytes) (Some same) rest seen old between new k e few h =
+    later-asked (is_read_recorded settled (Some bytes)) (Some bytes) rest (old + looked_at) between new few
+    (subst (λ (xs : List ℕ). IsAskedBy (is_recorded settled xs) (Some bytes) rest between new) e
+    (subst (λ (xs : List ℕ). IsAskedBy (is_recorded settled seen) (Some xs) rest between new) k h))
 
 -- ---- the look failed
 
@@ -69,10 +68,10 @@ unread-asked true (Some bytes) (Some same) old new k few =
 unread-asked false left rest old new k few = omega (arith, few)
 
 -- it was asked at most so often as it is looked at
-pub unread-few : (options : RecordingOptions) (left rest : Option (List ℕ)) (old new : ℕ) → Keeps left rest
-    → new ≤ old + looked_at → IsAskedFew options left rest old new
-unread-few options left rest old new k few =
-    unread-asked (is_read_recorded options left) left rest (old + looked_at) new k few
+pub unread-few : (settled : Bool) (left rest : Option (List ℕ)) (old new : ℕ) → Keeps left rest
+    → new ≤ old + looked_at → IsAskedFew settled left rest old new
+unread-few settled left rest old new k few =
+    unread-asked (is_read_recorded settled left) left rest (old + looked_at) new k few
 
 -- nothing is known of a recording of which nothing was read
 nothing-known : (options : Options) (ports : Ports)

@@ -105,8 +105,8 @@ module _ {R : Type 0} (remaining : R → Option (List ℕ)) where
   abbrev pub TakesOne : (listed : ListTaking) → RecordingOptions → Ports → List ℕ →
       (rest : Watched (Peeked R)) → List (Item Heading) → Result InputCount RunFault → Type 0
   TakesOne listed options ports bytes rest past answer =
-      TakesAs listed (is_read_recorded options (Some bytes)) (options_of options) ports bytes
-      (left_in remaining (device_of rest)) past answer
+      TakesAs listed (is_read_recorded options.are_given (Some bytes)) (options_of options) ports
+      bytes (left_in remaining (device_of rest)) past answer
 
   -- of two recordings of these bytes
   abbrev pub TakesTwo : PairOptions → Ports → (both : List ℕ × List ℕ) →
@@ -117,13 +117,13 @@ module _ {R : Type 0} (remaining : R → Option (List ℕ)) where
 
   -- ---- how often they are asked, from the first to the last
 
-  abbrev pub IsAskedForOne : RecordingOptions → (first last : Watched (Peeked R)) → Type 0
-  IsAskedForOne options first last =
-      IsAskedFew options (left_in remaining (device_of first)) (left_in remaining (device_of last))
-      (calls_of first) (calls_of last)
+  abbrev pub IsAskedForOne : (has_to_be : Bool) → (first last : Watched (Peeked R)) → Type 0
+  IsAskedForOne has_to_be first last =
+      IsAskedFew has_to_be (left_in remaining (device_of first))
+      (left_in remaining (device_of last)) (calls_of first) (calls_of last)
 
-  abbrev pub IsAskedForEach : PairOptions → (first last : BySide (Watched R)) → Type 0
-  IsAskedForEach options first last =
+  abbrev pub IsAskedForEach : (first last : BySide (Watched R)) → Type 0
+  IsAskedForEach first last =
       IsAskedOnceFor remaining first.a last.a × IsAskedOnceFor remaining first.b last.b
 
 -- ---- nothing was asked yet

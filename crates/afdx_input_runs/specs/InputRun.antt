@@ -20,13 +20,13 @@ use Rattle.afdx_input_runs.specs.RecordingRun.{IsAskedOnce, RecordingAnswers}
 use Rattle.afdx_input_runs.specs.declared.reading.Reading.{Reading}
 
 -- an input whose first bytes are these is read as a recording: it has to be one, or begins as one
-abbrev pub is_recorded : RecordingOptions → List ℕ → Bool
-is_recorded options seen = options.are_given || is_recording seen
+abbrev pub is_recorded : (has_to_be : Bool) → List ℕ → Bool
+is_recorded has_to_be seen = has_to_be || is_recording seen
 
 -- so is one that gives this, by its true first bytes; one that gives nobody knows what may be one
-abbrev pub is_read_recorded : RecordingOptions → (left : Option (List ℕ)) → Bool
-is_read_recorded options None = true
-is_read_recorded options (Some bytes) = is_recorded options (take looked_at bytes)
+abbrev pub is_read_recorded : (has_to_be : Bool) → (left : Option (List ℕ)) → Bool
+is_read_recorded has_to_be None = true
+is_read_recorded has_to_be (Some bytes) = is_recorded has_to_be (take looked_at bytes)
 
 -- how often an input may be asked: a recording at most once for each byte, and once more
 abbrev pub IsAskedBy : Bool → (left rest : Option (List ℕ)) → (old new : ℕ) → Type 0
@@ -34,9 +34,9 @@ IsAskedBy true left rest old new = IsAskedOnce left rest old new
 IsAskedBy false left rest old new = new ≤ old + most_reads
 
 -- and that often more to look at its first bytes
-abbrev pub IsAskedFew : RecordingOptions → (left rest : Option (List ℕ)) → (old new : ℕ) → Type 0
-IsAskedFew options left rest old new =
-    IsAskedBy (is_read_recorded options left) left rest (old + looked_at) new
+abbrev pub IsAskedFew : (has_to_be : Bool) → (left rest : Option (List ℕ)) → (old new : ℕ) → Type 0
+IsAskedFew has_to_be left rest old new =
+    IsAskedBy (is_read_recorded has_to_be left) left rest (old + looked_at) new
 
 module _ {Said Thing : Type 0} (kind : Kind Said Thing) (thing : Item Heading → Thing)
     (way : Options × Ports) (done told begins : List (Item Heading) → Type 0) where
@@ -57,14 +57,10 @@ module _ {Said Thing : Type 0} (kind : Kind Said Thing) (thing : Item Heading �
 
 -- an item can come of it: a line of its form says it, or it is a frame that came in as its options
 -- say, and else its ports
-abbrev pub CanCome : RecordingOptions → Ports → (says : Item Heading → Type 0) →
-    Item Heading → Type 0
-CanCome options ports says item = says item ⊎ IsEntered (options_of options) ports item
-
 abbrev pub CanBeRead : {F : Type 0} → RecordingOptions → Reading F →
     (says : F → Item Heading → Type 0) → Item Heading → Type 0
-CanBeRead options reading says =
-    CanCome options (ports_unsaid reading.unsaid) (says reading.form)
+CanBeRead options reading says item =
+    says reading.form item ⊎ IsEntered (options_of options) (ports_unsaid reading.unsaid) item
 
 -- What a run answers whose input has these bytes, and then has `rest`. Those that were seen first
 -- decide whether it is read as a recording, or as a list of the kind of its form.
@@ -75,4 +71,4 @@ abbrev pub ReadingAnswers : {F Said Thing : Type 0} → RecordingOptions → Rea
 ReadingAnswers options reading kind says_of seen done told begins bytes rest result =
     InputAnswers (kind reading.form) (thing_of (kind reading.form) says_of)
     (options_of options, ports_unsaid reading.unsaid) done told begins
-    (is_recorded options seen) bytes rest result
+    (is_recorded options.are_given seen) bytes rest result

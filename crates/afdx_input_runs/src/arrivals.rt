@@ -12,22 +12,26 @@ use crate::reading::Reading;
 use crate::recording_run::run_pair;
 use afdx_frame::BySide;
 use afdx_input_lines::{Heading, Peeked, RunFault, Watched};
-use afdx_input_sources::{LineForm, Machine, PairOptions, RecordingOptions};
+use afdx_input_sources::{LineForm, Machine, PairOptions, Placing, RecordingOptions};
 use afdx_text::Sink;
 use std::alloc::Global;
 use std::io::Read;
 
-impl RunHead for Heading {
+impl<P: Placing> RunHead<P> for Heading {
+    ghost use Rattle.std.specs.Prelude.{◌⊎◌};
     ghost use Rattle.afdx_input_runs.specs.Arrivals.{DontGoBack};
 
     type Count = InputCount;
+
+    ghost is_settled = { P.is_settled };
+
+    ghost CanCome = { λ options ports says item. says item ⊎ P.Enters options ports item };
 
     ghost GoOn = { λ past. DontGoBack (arrivals_of past) };
 }
 
 impl<R: Read> RunInput<RecordingOptions, Heading> for Watched<Peeked<R>> {
     ghost use Rattle.afdx_input_runs.specs.Arrivals.{IsAskedForOne, IsNewOne, TakesOne};
-    ghost use Rattle.afdx_input_runs.specs.InputRun.{CanCome as CanComeOfOne};
 
     ghost IsNew = { IsNewOne };
 
@@ -36,8 +40,6 @@ impl<R: Read> RunInput<RecordingOptions, Heading> for Watched<Peeked<R>> {
     ghost known = { λ input. left_in R.remaining (device_of input) };
 
     ghost IsAskedFew = { IsAskedForOne R.remaining };
-
-    ghost CanCome = { CanComeOfOne };
 
     ghost Takes = { TakesOne R.remaining };
 
@@ -62,7 +64,6 @@ impl<R: Read> RunInput<RecordingOptions, Heading> for Watched<Peeked<R>> {
 impl<R: Read> RunInput<PairOptions, Heading> for BySide<Watched<R>> {
     ghost use Rattle.afdx_input_runs.specs.Arrivals.{AreNewTwo, IsAskedForEach, TakesTwo};
     ghost use Rattle.afdx_input_runs.specs.Over.{bytes_of_both};
-    ghost use Rattle.afdx_input_runs.specs.RecordingRun.{IsEnteredBy};
 
     ghost IsNew = { AreNewTwo };
 
@@ -70,9 +71,7 @@ impl<R: Read> RunInput<PairOptions, Heading> for BySide<Watched<R>> {
 
     ghost known = { bytes_of_both R.remaining };
 
-    ghost IsAskedFew = { IsAskedForEach R.remaining };
-
-    ghost CanCome = { λ options ports says. IsEnteredBy options ports };
+    ghost IsAskedFew = { λ settled. IsAskedForEach R.remaining };
 
     ghost Takes = { λ listed. TakesTwo R.remaining };
 

@@ -35,7 +35,7 @@ pub enum InputCount {
 /// Whether an input with these first bytes is read as a recording: it has to be one, or begins as
 /// one.
 fn is_recorded(options: &RecordingOptions, seen: &[u8]) -> bool
-    ensures { result ≡ spec.is_recorded options.now seen.now }
+    ensures { result ≡ spec.is_recorded options.now.are_given seen.now }
 {
     options.are_given || is_recording(seen)
 }
@@ -89,7 +89,7 @@ fn run_looked<F: LineForm<Heading>, R: Read, M: Machine<Heading>, O: Sink>(
     ensures ended { OnOk result (has_ended input.new ≡ true) }
     ensures read { has_failed input.new ≡ is_failed_read result }
     ensures write { O.failed output.new ≡ is_failed_write result }
-    ensures calls { IsAskedBy (spec.is_recorded options (held (device_of input.old)))
+    ensures calls { IsAskedBy (spec.is_recorded options.are_given (held (device_of input.old)))
         (left_in R.remaining (device_of input.old)) (left_in R.remaining (device_of input.new))
         (calls_of input.old) (calls_of input.new) }
     ensures answer { HoldsOfTold M.Can M.Done M.Told M.Begins machine.old machine.new
@@ -134,7 +134,7 @@ pub(crate) fn run_input<F: LineForm<Heading>, R: Read, M: Machine<Heading>, O: S
     ensures ended { OnOk result (has_ended input.new ≡ true) }
     ensures read { has_failed input.new ≡ is_failed_read result }
     ensures write { O.failed output.new ≡ is_failed_write result }
-    ensures calls { IsAskedFew options
+    ensures calls { IsAskedFew options.are_given
         (left_in R.remaining (device_of input.old)) (left_in R.remaining (device_of input.new))
         (calls_of input.old) (calls_of input.new) }
 

@@ -1,6 +1,6 @@
 //! What gives a run what it takes, whatever that is.
 
-ghost use Rattle.std.specs.Prelude.{◌≡◌, [], List, Option, Result, Some, Err, IfSome, OnOk, false};
+ghost use Rattle.std.specs.Prelude.{◌≡◌, [], Bool, List, Option, Result, Some, Err, IfSome, OnOk, false};
 ghost use Rattle.afdx_input_lines.specs.Calls.{is_failed_read, is_failed_write};
 ghost use Rattle.afdx_input_lines.specs.declared.fault.RunFault.{RunFault as Fault};
 ghost use Rattle.afdx_input_lines.specs.declared.fault.RunFault.TheVariants.{Memory};
@@ -17,18 +17,25 @@ use afdx_input_sources::{LineForm, Machine};
 use afdx_text::Sink;
 use std::alloc::Global;
 
-/// What a run takes, by what is said of each: arrivals, frames that came and that left, or the
-/// numbers of recordings.
-pub trait RunHead: OfLines {
+/// What a run takes with options `P`, by what is said of each: arrivals, frames that came and that
+/// left, or the numbers of recordings.
+pub trait RunHead<P>: OfLines {
     /// What it counts of its inputs.
     type Count;
+
+    /// What the input is doesn't rest on its first bytes.
+    ghost is_settled: { P → Bool };
+
+    /// Such an item can come, by the options and these ports, and of lists whose lines say items of
+    /// which this holds.
+    ghost CanCome: { P → Ports → (Item Headed → Type 0) → Item Self → Type 0 };
 
     /// The times of these, of which the newest is the first, don't go back.
     ghost GoOn: { List (Item Self) → Type 0 };
 }
 
 /// What gives a run what it takes, with options `P`: one input, or two that are read at once.
-pub trait RunInput<P, H: RunHead>: Input {
+pub trait RunInput<P, H: RunHead<P>>: Input {
     /// Nothing was asked of it yet.
     ghost IsNew: { Self → Type 0 };
 
@@ -38,12 +45,9 @@ pub trait RunInput<P, H: RunHead>: Input {
     /// All that it still gives, where it is known.
     ghost known: { Self → Option Bytes };
 
-    /// From the first to the last it was asked no more often than is needed.
-    ghost IsAskedFew: { P → Self → Self → Type 0 };
-
-    /// Such an item can come of it, by its options and these ports, and of lists whose lines say
-    /// items of which this holds.
-    ghost CanCome: { P → Ports → (Item Headed → Type 0) → Item H → Type 0 };
+    /// From the first to the last it was asked no more often than is needed, where what it is
+    /// doesn't rest on its first bytes (true), or does.
+    ghost IsAskedFew: { Bool → Self → Self → Type 0 };
 
     /// Of an input of these bytes, which is then this one, a run with this answer has taken these,
     /// where of a list it takes what the first says.
@@ -53,8 +57,8 @@ pub trait RunInput<P, H: RunHead>: Input {
     /// Nothing was asked of a new one.
     fn starts()
         ensures sound { (input : Self) → IsNew input → Self.failed input ≡ false }
-        ensures asked { (options : P) (input : Self) → IsNew input →
-            IsAskedFew options input input };
+        ensures asked { (settled : Bool) (input : Self) → IsNew input →
+            IsAskedFew settled input input };
 
     /// A run that wants memory at once takes none, whatever kind of list it may read.
     fn takes_none<F: LineForm<Heading>>()
@@ -89,15 +93,15 @@ pub trait RunInput<P, H: RunHead>: Input {
         requires sound_output { O.failed output.old ≡ false }
         requires form { F.IsForm reading.form }
         requires told { IsReadyFor M.Can M.Told machine.old (O.written output.old)
-            (CanCome options (ports_unsaid reading.unsaid) (F.Gives reading.form)) }
+            (H.CanCome options (ports_unsaid reading.unsaid) (F.Gives reading.form)) }
         ensures ended { OnOk result (Self.ended self.new) }
         ensures read { Self.failed self.new ≡ is_failed_read result }
         ensures write { O.failed output.new ≡ is_failed_write result }
-        ensures calls { IsAskedFew options self.old self.new }
+        ensures calls { IsAskedFew (H.is_settled options) self.old self.new }
         ensures answer { let how = reading.entry in let ports = ports_unsaid how.unsaid in
             HoldsOfTold M.Can M.Done M.Told M.Begins machine.old machine.new
             (O.written output.old) (O.written output.new)
-            (CanCome options ports (F.Gives how.form)) (λ done told begins.
+            (H.CanCome options ports (F.Gives how.form)) (λ done told begins.
             IfSome (known self.old) (λ bytes. TookAndTold
             (Takes (TakesForm F.kind F.says_of how.form) options ports bytes self.new) result
             done told begins)) };

@@ -1,6 +1,6 @@
 //! Recordings are written as the frame list that says the same.
 
-ghost use Rattle.std.specs.Prelude.{◌≡◌, List, ℕ, OnOk, OnErr, IfSome, false};
+ghost use Rattle.std.specs.Prelude.{◌≡◌, List, ℕ, OnOk, OnErr, IfSome, false, true};
 ghost use Rattle.std.specs.Io.KnownBytes.{Appends};
 ghost use Rattle.afdx_input_lines.specs.Calls.{AppendsFront, is_failed_read, is_failed_write};
 ghost use Rattle.afdx_text.specs.Sinks.{SinkKept};
@@ -138,7 +138,7 @@ pub fn list_numbers<P: Drop, A: RunInput<P, NumberLine>, O: Sink>(
     ensures ended { OnOk result (A.ended input.new) }
     ensures read { A.failed input.new ≡ is_failed_read result }
     ensures write { O.failed output.new ≡ is_failed_write result }
-    ensures calls { A.IsAskedFew options input.old input.new }
+    ensures calls { A.IsAskedFew true input.old input.new }
 
     // Where its bytes are known: what is answered and written for the numbers that it takes.
     ensures lists { IfSome (A.known input.old) (λ bytes. Lists described.now

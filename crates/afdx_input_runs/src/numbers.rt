@@ -1,7 +1,7 @@
 //! What gives a run the numbers of recordings, as their lines: one recording, or two that are read
 //! at once.
 
-ghost use Rattle.std.specs.Prelude.{ℕ, List};
+ghost use Rattle.std.specs.Prelude.{ℕ, List, true};
 ghost use Rattle.afdx_input_lines.specs.Watching.{device_of};
 
 use crate::inputs::{RunHead, RunInput};
@@ -17,10 +17,14 @@ use afdx_text::Sink;
 use std::alloc::Global;
 use std::io::Read;
 
-impl RunHead for NumberLine {
+impl<P> RunHead<P> for NumberLine {
     ghost use Rattle.afdx_input_runs.specs.Numbers.{ArrivalsGoOn};
 
     type Count = Tally;
+
+    ghost is_settled = { λ options. true };
+
+    ghost CanCome = { λ options ports says item. Unit {0} };
 
     ghost GoOn = { ArrivalsGoOn };
 }
@@ -36,9 +40,7 @@ impl<R: Read> RunInput<RecordingOptions, NumberLine> for Watched<R> {
 
     ghost known = { λ input. R.remaining (device_of input) };
 
-    ghost IsAskedFew = { λ options. IsAskedOnceFor R.remaining };
-
-    ghost CanCome = { λ options ports says item. Unit {0} };
+    ghost IsAskedFew = { λ settled. IsAskedOnceFor R.remaining };
 
     ghost Takes = { λ listed. TakesNumbers R.remaining };
 
@@ -74,9 +76,7 @@ impl<R: Read> RunInput<PairOptions, NumberLine> for BySide<Watched<R>> {
 
     ghost known = { bytes_of_both R.remaining };
 
-    ghost IsAskedFew = { IsAskedForEach R.remaining };
-
-    ghost CanCome = { λ options ports says item. Unit {0} };
+    ghost IsAskedFew = { λ settled. IsAskedForEach R.remaining };
 
     ghost Takes = { λ listed. TakesNumbersOfTwo R.remaining };
 

@@ -1,7 +1,7 @@
 //! What gives a run the frames that came in at switches and those that left them: two lists, one
 //! recording of both, or two recordings that are read at once.
 
-ghost use Rattle.std.specs.Prelude.{◌≡◌, ℕ, List};
+ghost use Rattle.std.specs.Prelude.{◌≡◌, ℕ, List, true};
 ghost use Rattle.afdx_input_lines.specs.Watching.{device_of};
 ghost use Rattle.afdx_input_runs.specs.Joining.{frames_of};
 ghost use Rattle.afdx_input_runs.specs.SeenFrames as spec;
@@ -76,10 +76,14 @@ fn absent_in(role: Role, tally: &Tally) -> Option<RunFault>
     }
 }
 
-impl RunHead for Seen {
+impl<P> RunHead<P> for Seen {
     ghost use Rattle.afdx_input_runs.specs.SeenFrames.{GoOn as GoOnSeen};
 
     type Count = SeenCount;
+
+    ghost is_settled = { λ options. true };
+
+    ghost CanCome = { λ options ports says item. Unit {0} };
 
     ghost GoOn = { λ past. GoOnSeen (frames_of past) };
 }
@@ -94,9 +98,7 @@ impl<R: Read> RunInput<AsLists, Seen> for ByRole<Watched<R>> {
 
     ghost known = { bytes_by_role R.remaining };
 
-    ghost IsAskedFew = { λ options. IsAskedForLines R.remaining };
-
-    ghost CanCome = { λ options ports says item. Unit {0} };
+    ghost IsAskedFew = { λ settled. IsAskedForLines R.remaining };
 
     ghost Takes = { λ listed options ports bytes rest past.
         TakesLists R.remaining bytes rest (frames_of past) };
@@ -131,9 +133,7 @@ impl<R: Read> RunInput<RecordingOptions, Seen> for Watched<R> {
 
     ghost known = { λ input. R.remaining (device_of input) };
 
-    ghost IsAskedFew = { λ options. IsAskedOnceFor R.remaining };
-
-    ghost CanCome = { λ options ports says item. Unit {0} };
+    ghost IsAskedFew = { λ settled. IsAskedOnceFor R.remaining };
 
     ghost Takes = { λ listed options ports bytes rest past.
         TakesRecording R.remaining options ports bytes rest (frames_of past) };
@@ -168,9 +168,7 @@ impl<R: Read> RunInput<ByRole<RecordingOptions>, Seen> for ByRole<Watched<R>> {
 
     ghost known = { bytes_by_role R.remaining };
 
-    ghost IsAskedFew = { λ options. IsAskedForRoles R.remaining };
-
-    ghost CanCome = { λ options ports says item. Unit {0} };
+    ghost IsAskedFew = { λ settled. IsAskedForRoles R.remaining };
 
     ghost Takes = { λ listed options ports bytes rest past.
         TakesRecordings R.remaining options ports bytes rest (frames_of past) };

@@ -24,6 +24,7 @@ pub mod MergedLemmas
 pub mod OrderLemmas
 pub mod LawLemmas
 mod PlacingLemmas
+mod OpenPortLemmas
 pub mod UnusedLemmas
 pub mod EachLemmas
 pub mod EnteringLemmas

@@ -1,10 +1,12 @@
 -- The places that options say, at the switches that a configuration describes.
-use Rattle.std.specs.Prelude.{ℕ, ◌≡◌, ◌⊎◌, Bool, true, not, nat_lt, List, length, slice_get, if◌then◌else◌}
+use Rattle.std.specs.Prelude.{ℕ, ◌≡◌, ◌<◌, ◌⊎◌, Bool, true, not, nat_lt, List, length, slice_get, if◌then◌else◌}
 use Rattle.std.specs.Prelude.{Option, Some, None, is_some, option_map, option_and_then}
 use Rattle.afdx_config.specs.Switches.{NamedRows, far_end, switch_named}
 use Rattle.afdx_config.specs.declared.describing.Described.{Described}
 use Rattle.afdx_config.specs.declared.describing.Described.TheVariants.{One, Several}
 use Rattle.afdx_frame.specs.declared.link.Side.{Side}
+use Rattle.afdx_input_lines.specs.declared.frame_line.Heading.{Heading}
+use Rattle.afdx_input_sources.specs.Engine.{Item}
 use Rattle.afdx_input_sources.specs.Places.{names_of, place_of}
 use Rattle.afdx_input_sources.specs.declared.becoming.RecordingOptions.{RecordingOptions}
 use Rattle.afdx_input_sources.specs.declared.pair_options.PairOptions.{PairOptions}
@@ -43,6 +45,11 @@ module _ (switches : List NamedRows) where
       option_and_then (at_switch side port) (switch_by names name)
   place_among names (AtSwitch side switch port) = at_known side port switch
   place_among names place = Some place
+
+  -- an item is a frame at one of the switches, at a port where no cable is
+  pub record IsAtOpenPort (x : Item Heading) : Type 0 where
+    pub within : x.head.switch < length switches
+    pub free : far_end switches x.head.switch x.head.port ≡ None
 
 -- a place in a configuration, if it is one there
 abbrev pub place_in : Described → (names : List (List ℕ)) → TapPoint → Option TapPoint

@@ -1,9 +1,18 @@
 //! The places that options say, at the switches that a configuration describes.
 
-ghost use Rattle.std.specs.Prelude.{◌≡◌, ◌<◌, IfSome, length, map, option_map, string_bytes, true, false};
+ghost use Rattle.std.specs.Prelude.{◌≡◌, ◌<◌, Bool, List, IfSome, length, map, option_map, string_bytes};
+ghost use Rattle.std.specs.Prelude.{true, false};
+ghost use Rattle.afdx_config.specs.Switches.{AreSwitches, NamedRows};
 ghost use Rattle.afdx_config.specs.declared.describing.Described.{Described as Configuration};
+ghost use Rattle.afdx_config.specs.declared.describing.Described.TheVariants as described;
+ghost use Rattle.afdx_input_lines.specs.declared.frame_line.Heading.{Heading};
+ghost use Rattle.afdx_input_sources.specs.Becoming.{options_of};
+ghost use Rattle.afdx_input_sources.specs.Claims.{Ports, ports_of_several};
+ghost use Rattle.afdx_input_sources.specs.Engine.{CanTell, Item};
+ghost use Rattle.afdx_input_sources.specs.Entering.{IsEntered, IsEnteredInPair};
+ghost use Rattle.afdx_input_sources.specs.PairOptions.{options_of_a, options_of_b};
 ghost use Rattle.afdx_input_sources.specs.Placing as spec;
-ghost use Rattle.afdx_input_sources.specs.Placing.{OptionsAreMisplaced, OptionsArePlaced};
+ghost use Rattle.afdx_input_sources.specs.Placing.{IsAtOpenPort, OptionsAreMisplaced, OptionsArePlaced};
 ghost use Rattle.afdx_input_sources.specs.Placing.{PairIsMisplaced, PairIsPlaced};
 
 use crate::becoming::RecordingOptions;
@@ -100,6 +109,21 @@ pub trait Placing {
     /// One of them is none there.
     ghost AreNotPlaced: { Configuration → Self → Type 0 };
 
+    /// What is read by them has to be a recording, whatever its first bytes are.
+    ghost is_settled: { Self → Bool };
+
+    /// An arrival of a recording came in as they say, and else these ports.
+    ghost Enters: { Self → Ports → Item Heading → Type 0 };
+
+    /// Places settle nothing else; and of several switches each arrival then came in at one of
+    /// these, at a port where no cable is.
+    fn places()
+        ensures settled { (d : Configuration) (options placed : Self) →
+            ArePlaced d options placed → is_settled placed ≡ is_settled options }
+        ensures there { (switches : List NamedRows) (options placed : Self) →
+            AreSwitches switches → ArePlaced (described.Several switches) options placed →
+            CanTell (Enters placed (ports_of_several switches)) (IsAtOpenPort switches) };
+
     /// Puts each place where it is in a configuration. False: one is none there. Where there is one
     /// switch on a side, that is one with a name; where there are several, a port without a name, a
     /// name that no switch has, a port with a cable, or one where frames left.
@@ -113,6 +137,12 @@ impl Placing for RecordingOptions {
 
     ghost AreNotPlaced = { OptionsAreMisplaced };
 
+    ghost is_settled = { λ options. options.are_given };
+
+    ghost Enters = { λ options. IsEntered (options_of options) };
+
+    fn places() {}
+
     fn place_in(&mut self, described: &Described) -> bool {
         self.interfaces.place_in(described)
     }
@@ -122,6 +152,12 @@ impl Placing for PairOptions {
     ghost ArePlaced = { PairIsPlaced };
 
     ghost AreNotPlaced = { PairIsMisplaced };
+
+    ghost is_settled = { λ options. true };
+
+    ghost Enters = { λ options. IsEnteredInPair (options_of_a options) (options_of_b options) };
+
+    fn places() {}
 
     fn place_in(&mut self, described: &Described) -> bool {
         self.interfaces.a.place_in(described) && self.interfaces.b.place_in(described)

@@ -41,36 +41,36 @@ told_lines n side name reason lost =
 module _ (s : List NamedRows) (before : List SwitchEvent) (at : SitedPort) (tag : ℕ) (v : Verdict) (wait : ℕ)
     (h : SwitchEvent) (tells : TellsArrival (plan_of s) before at tag v wait h) where
   -- its lines, by the name of its switch
-  lines-are : (name : List ℕ) → name ≡ switch_name s at.switch
+  lines-are : (name : List ℕ) → name ≡ switch_name s at.switch.0
       → told_lines tag at.side name (network.reason_in v) (network.lost_in v)
-      ≡ event_lines s before (arriving (plan_of s) before at.switch tells.arrival)
+      ≡ event_lines s before (arriving (plan_of s) before at.switch.0 tells.arrival)
   lines-are name named =
       ap (λ n. told_lines n at.side name (network.reason_in v) (network.lost_in v)) tells.tag_is
       ∙ ap (λ z. told_lines tells.arrival.tag z name (network.reason_in v) (network.lost_in v))
       tells.side
       ∙ ap (λ n. told_lines tells.arrival.tag tells.arrival.side n (network.reason_in v)
       (network.lost_in v)) named
-      ∙ lines-told (switch_name s at.switch) v
-      (admission_after (tables_of s at.switch) (came_to at.switch before) tells.arrival) tells.tells
+      ∙ lines-told (switch_name s at.switch.0) v
+      (admission_after (tables_of s at.switch.0) (came_to at.switch.0 before) tells.arrival) tells.tells
 
   -- an arrival is told
   pub told-arrival : (all : List Systems) (name : List ℕ) (old counts : Summary) (x y : Known)
-      → name ≡ switch_name s at.switch → SystemsAre s all before
+      → name ≡ switch_name s at.switch.0 → SystemsAre s all before
       → counts ≡ with_admission old (network.reason_in v) (length (network.lost_in v))
       → Appends x y (told_lines tag at.side name (network.reason_in v) (network.lost_in v))
       → TellsOne s all old counts x y before h
   told-arrival all name old counts x y named are more written =
       subst (λ e. TellsOne s all old counts x y before e) (sym tells.is) (record {
-        systems_are = systems-kept s all at.switch before are
-            (Came (admission_after (tables_of s at.switch) (came_to at.switch before) tells.arrival)) (λ es. refl);
+        systems_are = systems-kept s all at.switch.0 before are
+            (Came (admission_after (tables_of s at.switch.0) (came_to at.switch.0 before) tells.arrival)) (λ es. refl);
         counted = more
             ∙ ap (λ r. with_admission old r (length (network.lost_in v))) tells.tells.reason
-            ∙ ap (λ (l : List ℕ). with_admission old (reason_of (tables_of s at.switch) (came_to at.switch before)
+            ∙ ap (λ (l : List ℕ). with_admission old (reason_of (tables_of s at.switch.0) (came_to at.switch.0 before)
             tells.arrival) (length l)) tells.tells.lost;
         written = subst (λ (l : List ℕ). Appends x y l) (lines-are name named) written;
       })
 
-  pub begun-arrival : (name : List ℕ) (x y : Known) → name ≡ switch_name s at.switch
+  pub begun-arrival : (name : List ℕ) (x y : Known) → name ≡ switch_name s at.switch.0
       → AppendsFront x y (told_lines tag at.side name (network.reason_in v) (network.lost_in v))
       → AppendsFront x y (event_lines s before h)
   begun-arrival name x y named written =
@@ -80,7 +80,7 @@ module _ (s : List NamedRows) (before : List SwitchEvent) (at : SitedPort) (tag 
   module _ {D : Type 0} (contents : D → Option (List ℕ)) (reason : Option Reason)
       (is : reason ≡ network.reason_in v) where
     abbrev Line : List ℕ → Type 0
-    Line = IsLineOf s at.switch before (Came (admission_after (tables_of s at.switch) (came_to at.switch before)
+    Line = IsLineOf s at.switch.0 before (Came (admission_after (tables_of s at.switch.0) (came_to at.switch.0 before)
         tells.arrival))
 
     -- what a device hears then
@@ -90,15 +90,15 @@ module _ (s : List NamedRows) (before : List SwitchEvent) (at : SitedPort) (tag 
     hears start early now = subst (λ g. HearsEarly contents s start early (g ∷ before)) (sym tells.is) now
 
     over-is : (over : Bool) (line : List ℕ) → is_over_rate reason ≡ over
-        → IsLineOn (tables_of s at.switch) (came_to at.switch before) tells.arrival
-        (Some (place_text tells.arrival.side (switch_name s at.switch))) over line → Line line
+        → IsLineOn (tables_of s at.switch.0) (came_to at.switch.0 before) tells.arrival
+        (Some (place_text tells.arrival.side (switch_name s at.switch.0))) over line → Line line
     over-is over line =
-        line-on (tables_of s at.switch) (came_to at.switch before) tells.arrival reason (is ∙ tells.tells.reason)
-        (Some (place_text tells.arrival.side (switch_name s at.switch))) over line
+        line-on (tables_of s at.switch.0) (came_to at.switch.0 before) tells.arrival reason (is ∙ tells.tells.reason)
+        (Some (place_text tells.arrival.side (switch_name s at.switch.0))) over line
 
     -- it was dropped for its link's rate
     pub heard-early : (name : List ℕ) (start : Option (Watched D)) (drops after : Watched D)
-        → name ≡ switch_name s at.switch → is_over_rate reason ≡ true
+        → name ≡ switch_name s at.switch.0 → is_over_rate reason ≡ true
         → Tells contents drops after (early_line tag (Some (place_text at.side name)) wait)
         → HearsEarly contents s start (Some drops) before → HearsEarly contents s start (Some after) (h ∷ before)
     heard-early name start drops after named over told was =
@@ -106,7 +106,7 @@ module _ (s : List NamedRows) (before : List SwitchEvent) (at : SitedPort) (tag 
         (early_line tag (Some (place_text at.side name)) wait)
         (over-is true (early_line tag (Some (place_text at.side name)) wait) over (
           wait,
-          subst (λ (o : Bool). IsWait o (tables_of s at.switch) (came_to at.switch before) tells.arrival wait)
+          subst (λ (o : Bool). IsWait o (tables_of s at.switch.0) (came_to at.switch.0 before) tells.arrival wait)
               (sym (ap is_over_rate (is ∙ tells.tells.reason)) ∙ over) tells.was_early,
           ap (λ n. early_line n (Some (place_text at.side name)) wait) tells.tag_is
               ∙ ap (λ z. early_line tells.arrival.tag (Some (place_text z name)) wait) tells.side

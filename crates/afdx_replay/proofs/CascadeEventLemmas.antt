@@ -269,11 +269,11 @@ module _ (s : List NamedRows) (all : List Systems) (k : ℕ) (before : List Swit
   begun-departure a b d h =
       subst (λ n. AppendsFront a b (lines_at n (tables_of s k) (at_switch k before) (Left d))) named h
 
-  module _ (at : SitedPort) (time tag : ℕ) (d : Departure) (here : at.switch ≡ k)
+  module _ (at : SitedPort) (time tag : ℕ) (d : Departure) (here : at.switch.0 ≡ k)
       (is : IsCarried (plan_of s) at time tag d) where
     unheard : listener_at (tables_of s k) d.port ≡ None
     unheard = subst (λ j. listener_at (tables_of s j) d.port ≡ None) here
-        (cable-unheard s at.switch d.port is.cable.0 is.cable.1)
+        (cable-unheard s at.switch.0 d.port is.cable.0 is.cable.1)
 
     carried-line : departure_line false tag time (place_text at.side name) at.port
         ≡ departure_line d.turn.too_old d.turn.entry.item.tag d.turn.end (place_text d.side (switch_name s k)) d.port

@@ -24,6 +24,7 @@ use Rattle.afdx_input_sources.specs.Items.{CanFollow, thing_of}
 use Rattle.afdx_input_sources.specs.ListRun.{IsDone, ListAnswers}
 use Rattle.afdx_input_sources.specs.Listed.{frames}
 use Rattle.afdx_input_sources.specs.Lists.{latest_in}
+use Rattle.afdx_input_sources.specs.Placing.{IsAtOpenPort}
 use Rattle.afdx_input_sources.proofs.ListRunLemmas.{answers-err, answers-ok}
 use Rattle.afdx_input_sources.proofs.RunLemmas.{stops-at-start}
 use Rattle.afdx_input_runs.specs.declared.input_run.InputCount.{InputCount}
@@ -110,6 +111,14 @@ module _ (ss : List NamedRows) where
         free = no-end (far_end ss x.head.switch x.head.port)
             (sym (cable-is ss x.head.switch x.head.port within is.port) ∙ is.free);
       }
+
+  -- so is what came in at an open port, or what such a list says
+  pub come-there : (enters : Item Heading → Type 0) → CanTell enters (IsAtOpenPort ss) → (x : Item Heading)
+      → IsAtSite (sites_of ss) x ⊎ enters x → IsAtPlace ss x
+  come-there enters there x come = elim come [
+    | inl is ↦ at-place x is
+    | inr entered ↦ (let at = there x entered in record { within = at.within; free = ap end_of at.free })
+  ]
 
   -- each frame that the lines of a list say can be told
   pub can-tell : (sites : List NamedCables) → sites ≡ sites_of ss → CanTell (IsAtSite sites) (IsAtPlace ss)

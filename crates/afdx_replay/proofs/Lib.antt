@@ -18,6 +18,5 @@ mod CascadePromisedLemmas
 mod CascadeStepLemmas
 mod CascadeWholeLemmas
 mod CascadeArriveLemmas
-mod EnteredLemmas
 mod PlacedLemmas
 mod OneSwitchLemmas

@@ -20,10 +20,6 @@ module _ {P : Type 0} (Placed : Described → P → P → Type 0) (options : P) 
     pub are_placed : Placed d options placed
     pub so_is : so placed
 
-  -- so it is by the options, or by those with their places in some configuration
-  abbrev pub HoldsOfOptions : (so : P → Type 0) → Type 0
-  HoldsOfOptions so = so options ⊎ ((d : Described) × ArePlacedIn d so)
-
   module _ (Misplaced : Described → P → Type 0) {E : Type 0} (error_bytes : E → Option (List ℕ))
       (old new : Watched E) (config : List ℕ) where
     -- the configuration has no fault, but not a place of the options: that is told, with status 2

@@ -24,7 +24,6 @@ pub use afdx_input_sources::{
 };
 pub use afdx_text::{Output, Sink};
 pub use cascading::admitted::run_cascade;
-pub use cascading::over::SitedInput;
 pub use cascading::unadmitted::run_cascade_unadmitted;
 pub use input_ending::{InputEnded, InputSummary};
 pub use listing::{ListEnded, list_and_count};

@@ -5,7 +5,7 @@ ghost use Rattle.std.specs.Result.{result_ok};
 ghost use Rattle.afdx_text.specs.Telling.{TellsFault};
 ghost use Rattle.afdx_input_runs.specs.Arrivals.{TakesFrames};
 ghost use Rattle.afdx_replay.specs.Listing.{EndsListing, ListsBy, status_of_listing};
-ghost use Rattle.afdx_replay.specs.Placed.{HoldsOfOptions, IsPlacedStatus};
+ghost use Rattle.afdx_replay.specs.Placed.{IsPlacedStatus};
 
 use crate::placed::read_placed;
 use afdx_command_tables::status::DONE;
@@ -88,8 +88,7 @@ pub fn list_and_count<P: Placing + Drop, A: RunInput<P, NumberLine>, O: Sink, E:
     ensures done { result.status ≡ 0 →
         A.ended input.new × (A.failed input.new ≡ false) × (O.failed output.new ≡ false) }
     ensures device { (A.failed input.new || O.failed output.new) ≡ true → result.status ≡ 4 }
-    ensures calls { HoldsOfOptions P.ArePlaced options
-        (λ said. A.IsAskedFew said input.old input.new) }
+    ensures calls { A.IsAskedFew true input.old input.new }
 
     // The command ends as the listing answered, by the options with their places in the
     // configuration, or nothing is read and nothing is written.

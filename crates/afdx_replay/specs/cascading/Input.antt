@@ -4,6 +4,7 @@ use Rattle.afdx_command_tables.specs.declared.summary.Summary.{Summary}
 use Rattle.afdx_config.specs.Switches.{NamedRows}
 use Rattle.afdx_input_sources.specs.Engine.{CanTell, Item}
 use Rattle.afdx_input_sources.specs.Items.{thing_of}
+use Rattle.afdx_input_sources.specs.Placing.{IsAtOpenPort}
 use Rattle.afdx_input_runs.specs.Arrivals.{By, ListTaking, TakesKind}
 use Rattle.afdx_input_runs.specs.declared.input_run.InputCount.{InputCount}
 use Rattle.afdx_input_lines.specs.SitedLines.{sited_frame}
@@ -13,7 +14,7 @@ use Rattle.afdx_input_lines.specs.declared.watched.Watched.{Watched}
 use Rattle.afdx_input_sources.specs.Claims.{Ports, ports_of_several}
 use Rattle.afdx_replay.specs.Inputs.{Taking, answer_of}
 use Rattle.afdx_replay.specs.cascading.Ran.{AllIsTold, AllSoFarIsTold, SomeIsTold, lists}
-use Rattle.afdx_replay.specs.cascading.Sited.{IsAtPlace, IsAtSite, lines_in, sites_of}
+use Rattle.afdx_replay.specs.cascading.Sited.{lines_in}
 use Rattle.afdx_replay.specs.declared.input_ending.InputSummary.{InputSummary}
 use Rattle.afdx_replay.specs.replaying.Replayed.{Known}
 
@@ -22,13 +23,11 @@ module _ (switches : List NamedRows) where
   abbrev pub TakesSited : ListTaking
   TakesSited = TakesKind (lists switches) (thing_of (lists switches) sited_frame)
 
-  -- each item that can come of an input with such options, or of such a list, is at one of these
-  -- switches, at a port without a cable
-  abbrev pub AreThere : {P : Type 0} →
-      (can_come : P → Ports → (Item Heading → Type 0) → Item Heading → Type 0) → P → Type 0
-  AreThere can_come options =
-      CanTell (can_come options (ports_of_several switches) (IsAtSite (sites_of switches)))
-      (IsAtPlace switches)
+  -- each arrival of a recording that comes in as these options say is at one of these switches, at
+  -- a port without a cable
+  abbrev pub AreThere : {P : Type 0} → (enters : P → Ports → Item Heading → Type 0) → P → Type 0
+  AreThere enters options =
+      CanTell (enters options (ports_of_several switches)) (IsAtOpenPort switches)
 
 module _ {D : Type 0} (contents : D → Option (List ℕ)) (switches : List NamedRows)
     (start early : Option (Watched D)) (old new : Known) where

@@ -43,7 +43,11 @@ pub record IsFor {D : Type 0} (switches : List NamedRows) (t : Teller D) : Type 
 -- the port at which the frame of a line arrives
 abbrev pub port_of : Line → SitedPort
 port_of line =
-    record { switch = line.switch; side = line.arrival.side; port = line.arrival.port }
+    record {
+      switch = record { 0 = line.switch };
+      side = line.arrival.side;
+      port = line.arrival.port;
+    }
 
 module _ (switches : List NamedRows) where
   -- the systems of each switch are after the frames that left it

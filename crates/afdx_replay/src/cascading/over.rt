@@ -1,10 +1,7 @@
 //! A replay of several switches over whatever gives it its frames.
 
-ghost use Rattle.std.specs.Prelude.{◌≡◌, List, OnOk, false};
+ghost use Rattle.std.specs.Prelude.{◌≡◌, OnOk, false};
 ghost use Rattle.afdx_input_lines.specs.Calls.{is_failed_read, is_failed_write};
-ghost use Rattle.afdx_config.specs.Switches.{AreSwitches, NamedRows};
-ghost use Rattle.afdx_config.specs.declared.describing.Described.{Described as Configuration};
-ghost use Rattle.afdx_config.specs.declared.describing.Described.TheVariants as described;
 ghost use Rattle.afdx_input_sources.specs.Claims.{ports_of_several};
 ghost use Rattle.afdx_replay.specs.cascading.Input.{AreThere, Replays, TakesSited};
 
@@ -12,40 +9,17 @@ use crate::cascading::run::Cascading;
 use crate::cascading::sites::{SitedLines, sites_of};
 use crate::input_ending::InputSummary;
 use afdx_config::Switches;
-use afdx_frame::BySide;
-use afdx_input_lines::{Heading, Peeked, RunFault, Watched};
+use afdx_input_lines::{Heading, RunFault, Watched};
 use afdx_input_runs::{Reading, RunInput};
-use afdx_input_sources::{PairOptions, Placing, RecordingOptions, UnsaidPort};
+use afdx_input_sources::{Placing, UnsaidPort};
 use afdx_text::Sink;
 use std::alloc::Global;
-use std::io::{Read, Write};
-
-/// What gives a replay of several switches its frames: an input that is a list of frames or a
-/// recording, or two recordings that are read at once.
-pub trait SitedInput<P: Placing>: RunInput<P, Heading> {
-    /// Options whose places are some of a configuration: how often the input is asked stays the
-    /// same; and of several switches each frame is there.
-    fn places()
-        ensures calls { (d : Configuration) (options placed : P) (first last : Self) →
-            P.ArePlaced d options placed → Self.IsAskedFew placed first last →
-            Self.IsAskedFew options first last }
-        ensures there { (switches : List NamedRows) (options placed : P) → AreSwitches switches →
-            P.ArePlaced (described.Several switches) options placed →
-            AreThere switches Self.CanCome placed };
-}
-
-impl<R: Read> SitedInput<RecordingOptions> for Watched<Peeked<R>> {
-    fn places() {}
-}
-
-impl<R: Read> SitedInput<PairOptions> for BySide<Watched<R>> {
-    fn places() {}
-}
+use std::io::Write;
 
 /// Replays the frames of an input through several switches on each side and the systems behind
 /// them, and tells `early`, if there is such a device, by how much each frame came too early that
 /// was dropped for its link's rate. `early` is handed back.
-pub(crate) fn replay_sited<P: Placing + Drop, A: SitedInput<P>, O: Sink, D: Write + Drop>(
+pub(crate) fn replay_sited<P: Placing + Drop, A: RunInput<P, Heading>, O: Sink, D: Write + Drop>(
     alloc: Global,
     options: P,
     switches: &Switches,
@@ -54,12 +28,12 @@ pub(crate) fn replay_sited<P: Placing + Drop, A: SitedInput<P>, O: Sink, D: Writ
     early: Option<Watched<D>>,
 ) -> (Result<InputSummary, RunFault>, Option<Watched<D>>)
     requires new { A.IsNew input.old }
-    requires there { AreThere switches.now A.CanCome options }
+    requires there { AreThere switches.now P.Enters options }
     requires sound_output { O.failed output.old ≡ false }
     ensures ended { OnOk result.0 (A.ended input.new) }
     ensures read { A.failed input.new ≡ is_failed_read result.0 }
     ensures write { O.failed output.new ≡ is_failed_write result.0 }
-    ensures calls { A.IsAskedFew options input.old input.new }
+    ensures calls { A.IsAskedFew (P.is_settled options) input.old input.new }
 
     // Where its bytes are known: what is answered, written and told for the items that it takes.
     ensures replays { let ss = switches.now in

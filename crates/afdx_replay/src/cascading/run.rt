@@ -19,7 +19,7 @@ use crate::cascading::teller::Teller;
 use crate::early::is_over_rate;
 use crate::replaying::lines::reason_of;
 use afdx_cascade::{Cascade, SitedPort};
-use afdx_config::Switches;
+use afdx_config::{SwitchId, Switches};
 use afdx_input_lines::{Heading, RunFault};
 use afdx_input_sources::Machine;
 use afdx_switch::Verdict;
@@ -110,7 +110,7 @@ impl<'a, D: Write> Cascading<'a, D> {
             (cascade.line_at heading.now.switch (arrival_on n heading.now message.now))) }
         ensures clock { OnOk result (cascade.IsUntil self.new.cascade heading.now.time) }
     {
-        let switch = usize::from(heading.switch);
+        let switch = SwitchId(heading.switch);
         let (side, time, port) = (heading.side, heading.time, heading.port);
         let frame = heading.frame(message);
         let verdict = self.cascade.arrive(switch, side, time, port, n, frame)?;
@@ -148,7 +148,7 @@ impl<D: Write> Machine<Heading> for Cascading<'_, D> {
         let arrived = self.arrive(n, heading, message)?;
         let (verdict, early) = arrived;
         let at = SitedPort {
-            switch: heading.switch as usize,
+            switch: SwitchId(heading.switch),
             side: heading.side,
             port: heading.port,
         };

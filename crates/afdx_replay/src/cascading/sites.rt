@@ -37,8 +37,8 @@ pub(crate) fn sites_of(alloc: Global, switches: &Switches) -> Result<Vec<ListedS
     ensures { IfOk result (λ sites. sites.items ≡ spec.sites_of switches.now) }
 {
     let mut sites = Vec::new(alloc);
-    for place in 0..switches.count() {
-        sites.push(site_at(alloc, switches, SwitchId(place as u8))?)?;
+    for place in 0..switches.id_count() {
+        sites.push(site_at(alloc, switches, SwitchId(place))?)?;
     }
     Ok(sites)
 }

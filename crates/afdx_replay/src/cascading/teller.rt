@@ -41,8 +41,8 @@ fn new_systems(alloc: Global, switches: &Switches) -> Result<Vec<Systems>, Alloc
     ensures stands { IfOk result (λ all. SystemsAre switches.now all.items []) }
 {
     let mut all = Vec::new(alloc);
-    for place in 0..switches.count() {
-        let tables = switches.tables(SwitchId(place as u8));
+    for place in 0..switches.id_count() {
+        let tables = switches.tables(SwitchId(place));
         all.push(Systems::new(alloc, tables)?)?;
     }
     Ok(all)
@@ -85,7 +85,7 @@ impl<'a, D: Write> Teller<'a, D> {
         tag: u64,
         output: &mut O,
     ) -> Result<(), RunFault>
-        requires within { at.switch < length self.old.systems.items }
+        requires within { at.switch.0 < length self.old.systems.items }
         requires fits { IsFor self.old.switches.now self.old }
         requires low { AreLow self.old.counts }
         requires sound { O.failed output.old ≡ false }
@@ -98,13 +98,13 @@ impl<'a, D: Write> Teller<'a, D> {
             IsCarried (plan_of self.old.switches.now) at time tag d →
             OnOk result (TellsOne self.old.switches.now self.new.systems.items
             self.old.counts self.new.counts (O.written output.old) (O.written output.new)
-            before (event_at at.switch (Left d))) }
+            before (event_at at.switch.0 (Left d))) }
         ensures begun { (before : List SwitchEvent) (d : Turned) →
             IsCarried (plan_of self.old.switches.now) at time tag d →
             OnErr result (AppendsFront (O.written output.old) (O.written output.new)
-            (event_lines self.old.switches.now before (event_at at.switch (Left d)))) }
+            (event_lines self.old.switches.now before (event_at at.switch.0 (Left d)))) }
     {
-        let name = self.switches.name(SwitchId(at.switch as u8));
+        let name = self.switches.name(at.switch);
         let line = OutLine::Left {
             n: tag,
             time,
@@ -123,11 +123,11 @@ impl<'a, D: Write> Teller<'a, D> {
     /// Tells a frame that left a switch, and the switches, or was dropped there.
     fn tell_ended<O: Sink>(
         &mut self,
-        switch: usize,
+        switch: SwitchId,
         departure: Departure,
         output: &mut O,
     ) -> Result<(), RunFault>
-        requires within { switch < length self.old.systems.items }
+        requires within { switch.0 < length self.old.systems.items }
         requires fits { IsFor self.old.switches.now self.old }
         requires low { AreLow self.old.counts }
         requires sound { O.failed output.old ≡ false }
@@ -140,15 +140,16 @@ impl<'a, D: Write> Teller<'a, D> {
             network.Hands departure d →
             OnOk result (TellsOne self.old.switches.now self.new.systems.items
             self.old.counts self.new.counts (O.written output.old) (O.written output.new)
-            before (event_at switch (Left d))) }
+            before (event_at switch.0 (Left d))) }
         ensures begun { (before : List SwitchEvent) (d : Turned) →
             SystemsAre self.old.switches.now self.old.systems.items before →
             network.Hands departure d →
             OnErr result (AppendsFront (O.written output.old) (O.written output.new)
-            (event_lines self.old.switches.now before (event_at switch (Left d)))) }
+            (event_lines self.old.switches.now before (event_at switch.0 (Left d)))) }
     {
-        let name = self.switches.name(SwitchId(switch as u8));
-        let systems = &mut self.systems[switch];
+        let name = self.switches.name(switch);
+        let place = switch.index();
+        let systems = &mut self.systems[place];
         let counts = &mut self.counts;
         tell_departure::<Teller<'a, D>, O>(systems, counts, name, &departure, output)
     }
@@ -164,7 +165,7 @@ impl<'a, D: Write> Teller<'a, D> {
         early: u64,
         output: &mut O,
     ) -> Result<(), RunFault>
-        requires within { at.switch < length self.old.systems.items }
+        requires within { at.switch.0 < length self.old.systems.items }
         requires fits { IsFor self.old.switches.now self.old }
         requires low { AreLow self.old.counts }
         requires sound { O.failed output.old ≡ false }
@@ -190,7 +191,7 @@ impl<'a, D: Write> Teller<'a, D> {
     {
         let site = Site {
             side: at.side,
-            switch: self.switches.name(SwitchId(at.switch as u8)),
+            switch: self.switches.name(at.switch),
         };
         let reason = tell_verdict(&mut self.counts, tag, site, &verdict, output)?;
         if let Some(drops) = &mut self.early {

@@ -16,6 +16,7 @@ use crate::policing::over::police_over;
 use afdx_command_tables::status::WRONG_WORDS;
 use afdx_input_lines::{Heading, Watched};
 use afdx_input_runs::RunInput;
+use afdx_input_sources::Placing;
 use afdx_text::{Sink, tell};
 use std::alloc::Global;
 use std::io::Write;
@@ -28,7 +29,7 @@ use std::io::Write;
 ///
 /// The exit status is 0 done, 2 a value out of range, 3 a fault of the list or a recording, 4 a
 /// device or memory.
-pub fn police_input<P: Drop, A: RunInput<P, Heading>, O: Sink, E: Write>(
+pub fn police_input<P: Placing + Drop, A: RunInput<P, Heading>, O: Sink, E: Write>(
     alloc: Global,
     options: P,
     given: &CommandedRule,
@@ -47,7 +48,7 @@ pub fn police_input<P: Drop, A: RunInput<P, Heading>, O: Sink, E: Write>(
         A.ended input.new × (A.failed input.new ≡ false) × (O.failed output.new ≡ false) }
     ensures device { (A.failed input.new || O.failed output.new) ≡ true →
         result.ended.status ≡ 4 }
-    ensures calls { A.IsAskedFew options input.old input.new }
+    ensures calls { A.IsAskedFew (P.is_settled options) input.old input.new }
 
     // A value out of range: nothing is read and nothing is written.
     ensures out_of_range { (IsCommanded given.now → ⊥) →

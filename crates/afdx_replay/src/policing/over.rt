@@ -12,14 +12,14 @@ use crate::policing::run::Police;
 use afdx_command_tables::{NO_COUNTS, Summary};
 use afdx_input_lines::{Heading, RunFault};
 use afdx_input_runs::{Reading, RunInput};
-use afdx_input_sources::{FrameLines, UnsaidPort};
+use afdx_input_sources::{FrameLines, Placing, UnsaidPort};
 use afdx_police::LinkRule;
 use afdx_text::Sink;
 use std::alloc::Global;
 
 /// Polices the arrivals of an input for one virtual link. Frames of a recording come in at the
 /// link's port, where no option says another.
-pub(crate) fn police_over<P: Drop, A: RunInput<P, Heading>, O: Sink>(
+pub(crate) fn police_over<P: Placing + Drop, A: RunInput<P, Heading>, O: Sink>(
     alloc: Global,
     options: P,
     rule: &LinkRule,
@@ -31,7 +31,7 @@ pub(crate) fn police_over<P: Drop, A: RunInput<P, Heading>, O: Sink>(
     ensures ended { OnOk result (A.ended input.new) }
     ensures read { A.failed input.new ≡ is_failed_read result }
     ensures write { O.failed output.new ≡ is_failed_write result }
-    ensures calls { A.IsAskedFew options input.old input.new }
+    ensures calls { A.IsAskedFew (P.is_settled options) input.old input.new }
 
     // Where its bytes are known: what is answered and written for the arrivals that it takes.
     ensures polices { IfSome (A.known input.old) (λ bytes. Polices (rule_of rule.now)

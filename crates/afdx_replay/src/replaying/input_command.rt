@@ -7,12 +7,13 @@ ghost use Rattle.afdx_input_lines.specs.Calls.{is_failed_read, is_failed_write};
 ghost use Rattle.afdx_replay.specs.cascading.Input.{AreThere};
 ghost use Rattle.afdx_replay.specs.replaying.Input.{EndsInput, IsThere, ReplaysBy};
 
-use crate::cascading::over::{SitedInput, replay_sited};
+use crate::cascading::over::replay_sited;
 use crate::input_ending::{InputEnded, InputSummary, end_input};
 use crate::placed::read_placed;
 use crate::replaying::over::replay_over;
 use afdx_command_tables::{Taken, take_described};
-use afdx_input_lines::{RunFault, Watched};
+use afdx_input_lines::{Heading, RunFault, Watched};
+use afdx_input_runs::RunInput;
 use afdx_input_sources::Placing;
 use afdx_text::Sink;
 use std::alloc::Global;
@@ -31,7 +32,7 @@ pub struct ReplaySettings<'a, P, D> {
 }
 
 /// Replays an input by what was taken of a configuration, and tells `early`.
-fn replay_taken<P: Placing + Drop, A: SitedInput<P>, O: Sink, D: Write + Drop>(
+fn replay_taken<P: Placing + Drop, A: RunInput<P, Heading>, O: Sink, D: Write + Drop>(
     alloc: Global,
     options: P,
     taken: &Taken,
@@ -40,13 +41,13 @@ fn replay_taken<P: Placing + Drop, A: SitedInput<P>, O: Sink, D: Write + Drop>(
     early: Option<Watched<D>>,
 ) -> (Result<InputSummary, RunFault>, Option<Watched<D>>)
     requires new { A.IsNew input.old }
-    requires there { IsThere (λ switches. AreThere switches A.CanCome) options
+    requires there { IsThere (λ switches. AreThere switches P.Enters) options
         (described_of taken.now) }
     requires sound_output { O.failed output.old ≡ false }
     ensures ended { OnOk result.0 (A.ended input.new) }
     ensures read { A.failed input.new ≡ is_failed_read result.0 }
     ensures write { O.failed output.new ≡ is_failed_write result.0 }
-    ensures calls { A.IsAskedFew options input.old input.new }
+    ensures calls { A.IsAskedFew (P.is_settled options) input.old input.new }
     ensures replays { ReplaysBy A.known A.Takes D.contents options input.old input.new
         early result.1 (O.written output.old) (O.written output.new) result.0
         (described_of taken.now) }
@@ -83,7 +84,7 @@ fn replay_taken<P: Placing + Drop, A: SitedInput<P>, O: Sink, D: Write + Drop>(
 /// place of the options that the configuration hasn't, 3 a fault of the list or a recording, 4 a
 /// device or memory. Of several causes the first is answered: a fault of the configuration, a
 /// place, admission.
-pub fn replay_input<P: Placing + Drop, A: SitedInput<P>, O: Sink, E: Write, D: Write + Drop>(
+pub fn replay_input<P: Placing + Drop, A: RunInput<P, Heading>, O: Sink, E: Write, D: Write + Drop>(
     alloc: Global,
     settings: ReplaySettings<'_, P, D>,
     input: &mut A,
@@ -100,7 +101,7 @@ pub fn replay_input<P: Placing + Drop, A: SitedInput<P>, O: Sink, E: Write, D: W
         A.ended input.new × (A.failed input.new ≡ false) × (O.failed output.new ≡ false) }
     ensures device { (A.failed input.new || O.failed output.new) ≡ true →
         result.0.ended.status ≡ 4 }
-    ensures calls { A.IsAskedFew settings.entry.options input.old input.new }
+    ensures calls { A.IsAskedFew (P.is_settled settings.entry.options) input.old input.new }
 
     // The command ends as a run over the input answered, by the options with their places in the
     // configuration, or nothing is read, nothing is written and nothing is told `early`.
@@ -111,9 +112,9 @@ pub fn replay_input<P: Placing + Drop, A: SitedInput<P>, O: Sink, E: Write, D: W
         asked.early result.1 (O.written output.old) (O.written output.new))
         ((input.new ≡ input.old) × (output.new ≡ output.old)) }
 {
-    // (laws of the input: before it is asked for anything it hasn't failed; what its options place)
+    // (laws: before the input is asked for anything it hasn't failed; what options place)
     A::starts();
-    A::places();
+    P::places();
     let ReplaySettings {
         config,
         admission,

@@ -11,7 +11,7 @@ use crate::replaying::run::Replay;
 use afdx_config::Tables;
 use afdx_input_lines::{Heading, RunFault, Watched};
 use afdx_input_runs::{Reading, RunInput};
-use afdx_input_sources::{FrameLines, UnsaidPort};
+use afdx_input_sources::{FrameLines, Placing, UnsaidPort};
 use afdx_text::Sink;
 use std::alloc::Global;
 use std::io::Write;
@@ -19,7 +19,7 @@ use std::io::Write;
 /// Replays the arrivals of an input through the switches of both sides and the systems behind them,
 /// and tells `early`, if there is such a device, by how much each frame came too early that was
 /// dropped for its link's rate. `early` is handed back.
-pub(crate) fn replay_over<P: Drop, A: RunInput<P, Heading>, O: Sink, D: Write + Drop>(
+pub(crate) fn replay_over<P: Placing + Drop, A: RunInput<P, Heading>, O: Sink, D: Write + Drop>(
     alloc: Global,
     options: P,
     tables: &Tables,
@@ -32,7 +32,7 @@ pub(crate) fn replay_over<P: Drop, A: RunInput<P, Heading>, O: Sink, D: Write + 
     ensures ended { OnOk result.0 (A.ended input.new) }
     ensures read { A.failed input.new ≡ is_failed_read result.0 }
     ensures write { O.failed output.new ≡ is_failed_write result.0 }
-    ensures calls { A.IsAskedFew options input.old input.new }
+    ensures calls { A.IsAskedFew (P.is_settled options) input.old input.new }
 
     // Where its bytes are known: what is answered, written and told for the arrivals that it takes.
     ensures replays { IfSome (A.known input.old) (λ bytes. Replays tables.now

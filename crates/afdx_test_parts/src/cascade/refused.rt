@@ -114,14 +114,7 @@ fn arrive(
     ensures quiet { OnErr result (IsQuiet cascade.new time) }
 {
     let frame = Checked::new(line.frame);
-    cascade.arrive(
-        line.switch.0 as usize,
-        Side::A,
-        time,
-        line.port,
-        line.tag,
-        frame,
-    )
+    cascade.arrive(line.switch, Side::A, time, line.port, line.tag, frame)
 }
 
 /// The same. Where memory is refused, it arrives again: a refused arrival has changed nothing.
@@ -197,12 +190,12 @@ fn end_told(switch: usize, gone: &Departure) -> Told {
 /// What is told of an event.
 fn event_told(happened: &Happened) -> Told {
     match happened {
-        Happened::Ended { switch, departure } => end_told(*switch, departure),
+        Happened::Ended { switch, departure } => end_told(switch.index(), departure),
         Happened::Carried { at, time, tag } => {
             if at.side == Side::B {
                 return Told::Other;
             }
-            Told::Left(at.switch, at.port, *tag, *time)
+            Told::Left(at.switch.index(), at.port, *tag, *time)
         }
         Happened::Came {
             at,
@@ -212,7 +205,7 @@ fn event_told(happened: &Happened) -> Told {
             early,
         } => {
             if is_forwarded(*verdict) && *early == 0 {
-                return Told::Accepted(at.switch, at.port, *tag, *time);
+                return Told::Accepted(at.switch.index(), at.port, *tag, *time);
             }
             Told::Other
         }

@@ -14,10 +14,12 @@ use Rattle.afdx_cascade.proofs.arriving.arrive_at.Goals as goal
 use Rattle.afdx_cascade.proofs.StandingLemmas.{line-arrives}
 
 pub returns-clause-stands : goal.returns-clause-stands
-returns-clause-stands c p at ring so_far st free =
+returns-clause-stands c =
+    let within = rw (sym c.index-place.ensures.place) at c.requires.within in
+    rw (sym c.index-place.ensures.place) (λ p at ring so_far st free.
     let x : Arrival = arrival_with c.args.tag c.args.time c.args.to.side c.args.to.port
     (bytes_of c.args.frame) in
-    let k = c.args.to.switch in
+    let k = c.index-place.result in
     on-ok c.arrive.result
     (network.StandsFor (p.tables k) c.arrive.new.self
     (Came (admission_after (p.tables k) (came_to k so_far) x) ∷ at_switch k so_far))
@@ -25,38 +27,47 @@ returns-clause-stands c p at ring so_far st free =
     (arriving p so_far k x ∷ so_far))
     (λ stands. line-arrives p c.args.networks.now at ring so_far
     (record { switch = k; arrival = x })
-    c.arrive.new.self st c.requires.within free stands)
+    c.arrive.new.self st within free stands)
     (c.arrive.ensures.stands (p.tables k) (at_switch k so_far)
     (st.all.each k _
-    (slice_get-get_or c.args.networks.now k c.index-networks-to.result c.requires.within)))
+    (slice_get-get_or c.args.networks.now k c.index-networks-place.result within))))
 
 pub returns-clause-verdict : goal.returns-clause-verdict
-returns-clause-verdict c p at ring so_far st =
-    let k = c.args.to.switch in
+returns-clause-verdict c =
+    let within = rw (sym c.index-place.ensures.place) at c.requires.within in
+    rw (sym c.index-place.ensures.place) (λ p at ring so_far st.
+    let k = c.index-place.result in
     c.arrive.ensures.verdict (p.tables k) (at_switch k so_far)
     (st.all.each k _
-    (slice_get-get_or c.args.networks.now k c.index-networks-to.result c.requires.within))
+    (slice_get-get_or c.args.networks.now k c.index-networks-place.result within)))
 
 pub returns-clause-judged : goal.returns-clause-judged
-returns-clause-judged c p at ring so_far st =
-    let k = c.args.to.switch in
+returns-clause-judged c =
+    let within = rw (sym c.index-place.ensures.place) at c.requires.within in
+    rw (sym c.index-place.ensures.place) (λ p at ring so_far st.
+    let k = c.index-place.result in
     c.arrive.ensures.judged (p.tables k) (at_switch k so_far)
     (st.all.each k _
-    (slice_get-get_or c.args.networks.now k c.index-networks-to.result c.requires.within))
+    (slice_get-get_or c.args.networks.now k c.index-networks-place.result within)))
 
 pub returns-clause-length : goal.returns-clause-length
-returns-clause-length c = length-set c.args.networks.now c.args.to.switch c.arrive.new.self
+returns-clause-length c =
+    length-set c.args.networks.now c.index-place.result c.arrive.new.self
 
 pub returns-clause-clock : goal.returns-clause-clock
-returns-clause-clock c k n at =
-    elim (set-cases c.args.networks.now c.args.to.switch c.arrive.new.self k n c.requires.within at) [
+returns-clause-clock c =
+    let within = rw (sym c.index-place.ensures.place) at c.requires.within in
+    λ k n at.
+    elim (set-cases c.args.networks.now c.index-place.result c.arrive.new.self k n within at) [
       | inl here ↦ subst (λ m. network.IsUntil m c.args.time) (sym here.1) c.arrive.ensures.clock
       | inr there ↦ c.requires.clock k n there.1
     ]
 
 pub returns-clause-still : goal.returns-clause-still
-returns-clause-still c n at =
-    elim (set-cases c.args.networks.now c.args.to.switch c.arrive.new.self c.args.to.switch n c.requires.within at) [
+returns-clause-still c =
+    let within = rw (sym c.index-place.ensures.place) at c.requires.within in
+    rw (sym c.index-place.ensures.place) (λ n at.
+    elim (set-cases c.args.networks.now c.index-place.result c.arrive.new.self c.index-place.result n within at) [
       | inl here ↦ subst (λ m. network.IsQuiet m c.args.time) (sym here.1) c.arrive.ensures.quiet
       | inr there ↦ absurd (there.0 refl)
-    ]
+    ])

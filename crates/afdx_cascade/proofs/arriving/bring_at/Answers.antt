@@ -37,8 +37,10 @@ same-frame r port tag time side bytes of-tag of-time on-side of-bytes =
     ∙ ap (λ b. arrival_with r.turn.entry.item.tag r.turn.end r.side port b) of-bytes
 
 pub returns-clause-judged : goal.returns-clause-judged
-returns-clause-judged c p at r rest so_far st on-side left =
-    let k = c.args.switch in
+returns-clause-judged c =
+    let within = rw (sym c.index-place.ensures.place) at c.requires.within in
+    rw (sym c.index-place.ensures.place) (λ p at r rest so_far st on-side left.
+    let k = c.index-place.result in
     let x : Arrival = arrival_with c.tag.result c.time.result c.side.result c.args.port
     (bytes_of c.frame.result) in
     let y : Arrival = brought r.side c.args.port r.turn in
@@ -50,11 +52,13 @@ returns-clause-judged c p at r rest so_far st on-side left =
     subst (λ z. OnErr c.arrive.result (shape_fault (p.tables k) z ≡ None)) same
     (c.arrive.ensures.judged (p.tables k) (at_switch k so_far)
     (st.all.each k _
-    (slice_get-get_or c.args.networks.now k c.index-networks-switch.result c.requires.within)))
+    (slice_get-get_or c.args.networks.now k c.index-networks-place.result within))))
 
 pub returns-clause-verdict : goal.returns-clause-verdict
-returns-clause-verdict c p at r rest so_far st on-side left =
-    let k = c.args.switch in
+returns-clause-verdict c =
+    let within = rw (sym c.index-place.ensures.place) at c.requires.within in
+    rw (sym c.index-place.ensures.place) (λ p at r rest so_far st on-side left.
+    let k = c.index-place.result in
     let x : Arrival = arrival_with c.tag.result c.time.result c.side.result c.args.port
     (bytes_of c.frame.result) in
     let y : Arrival = brought r.side c.args.port r.turn in
@@ -67,11 +71,13 @@ returns-clause-verdict c p at r rest so_far st on-side left =
     network.Tells v (admission_after (p.tables k) (came_to k so_far) z)) x y same
     (c.arrive.ensures.verdict (p.tables k) (at_switch k so_far)
     (st.all.each k _
-    (slice_get-get_or c.args.networks.now k c.index-networks-switch.result c.requires.within)))
+    (slice_get-get_or c.args.networks.now k c.index-networks-place.result within))))
 
 pub returns-clause-stands : goal.returns-clause-stands
-returns-clause-stands c p at r rest so_far plan st joined on-side left =
-    let k = c.args.switch in
+returns-clause-stands c =
+    let within = rw (sym c.index-place.ensures.place) at c.requires.within in
+    rw (sym c.index-place.ensures.place) (λ p at r rest so_far plan st joined on-side left.
+    let k = c.index-place.result in
     let x : Arrival = arrival_with c.tag.result c.time.result c.side.result c.args.port
     (bytes_of c.frame.result) in
     let y : Arrival = brought r.side c.args.port r.turn in
@@ -87,19 +93,22 @@ returns-clause-stands c p at r rest so_far plan st joined on-side left =
     (arriving p so_far k y ∷ so_far))
     (λ stands. frame-arrives p c.args.networks.now at r rest so_far
     (end_at k c.args.port) c.arrive.new.self plan st
-    c.requires.within joined
+    within joined
     (subst (λ z. network.StandsFor (p.tables k) c.arrive.new.self
     (Came (admission_after (p.tables k) (came_to k so_far) z) ∷ at_switch k so_far)) same stands))
     (c.arrive.ensures.stands (p.tables k) (at_switch k so_far)
     (st.all.each k _
-    (slice_get-get_or c.args.networks.now k c.index-networks-switch.result c.requires.within)))
+    (slice_get-get_or c.args.networks.now k c.index-networks-place.result within))))
 
 pub returns-clause-length : goal.returns-clause-length
-returns-clause-length c = length-set c.args.networks.now c.args.switch c.arrive.new.self
+returns-clause-length c =
+    length-set c.args.networks.now c.index-place.result c.arrive.new.self
 
 pub returns-clause-clock : goal.returns-clause-clock
-returns-clause-clock c k n at =
-    elim (set-cases c.args.networks.now c.args.switch c.arrive.new.self k n c.requires.within at) [
+returns-clause-clock c =
+    let within = rw (sym c.index-place.ensures.place) at c.requires.within in
+    λ k n at.
+    elim (set-cases c.args.networks.now c.index-place.result c.arrive.new.self k n within at) [
       | inl here ↦ subst (λ m. network.IsUntil m (as_given c.args.departure.now).end)
           (sym here.1) (subst (λ t.
           network.IsUntil c.arrive.new.self t) c.time.ensures c.arrive.ensures.clock)
@@ -107,10 +116,12 @@ returns-clause-clock c k n at =
     ]
 
 pub returns-clause-still : goal.returns-clause-still
-returns-clause-still c n at =
-    elim (set-cases c.args.networks.now c.args.switch c.arrive.new.self c.args.switch n c.requires.within at) [
+returns-clause-still c =
+    let within = rw (sym c.index-place.ensures.place) at c.requires.within in
+    rw (sym c.index-place.ensures.place) (λ n at.
+    elim (set-cases c.args.networks.now c.index-place.result c.arrive.new.self c.index-place.result n within at) [
       | inl here ↦ subst (λ m. network.IsQuiet m (as_given c.args.departure.now).end)
           (sym here.1) (subst (λ t.
           network.IsQuiet c.arrive.new.self t) c.time.ensures c.arrive.ensures.quiet)
       | inr there ↦ absurd (there.0 refl)
-    ]
+    ])

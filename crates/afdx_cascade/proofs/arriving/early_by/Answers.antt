@@ -18,13 +18,13 @@ use Rattle.afdx_cascade.proofs.arriving.early_by.Goals as goal
 
 pub returns-then-not-is_over_rate : goal.returns-then-not-is_over_rate
 returns-then-not-is_over_rate c p so_far r stand side left tells =
-    early-none (p.tables c.args.switch) (came_to c.args.switch so_far)
+    early-none (p.tables c.args.switch.0) (came_to c.args.switch.0 so_far)
     (brought r.side c.args.port r.turn) (reason_in c.args.verdict) tells.reason
     (sym c.if-not-is_over_rate.ensures)
 
 pub returns : goal.returns
 returns c p so_far r stand side left tells =
-    let k = c.args.switch in
+    let k = c.args.switch.0 in
     let x : Arrival = brought r.side c.args.port r.turn in
     let gone : Left HeldFrame = as_given c.args.departure.now in
     let y : Arrival = arrival_with gone.item.tag c.time-time.result c.side.result c.args.port

@@ -9,7 +9,8 @@ loop-place-preserved c =
     let ss = c.args.switches.now in
     rw c.in_ok-push.ensures.items
     (gathered-push (λ i e. e ≡ far_end ss (i / 25) (i % 25)) c.loop-place.place
-    c.loop-place.ends.items c.far_end.result c.loop-place.invariant c.far_end.ensures)
+    c.loop-place.ends.items c.far_end.result c.loop-place.invariant
+    (rw c.nth-switch.ensures.place at c.far_end.ensures))
 
 pub returns : goal.returns
 returns c =

@@ -9,7 +9,8 @@ pub loop-place-preserved : goal.loop-place-preserved
 loop-place-preserved c =
     rw c.in_ok-push.ensures.items
     (gathered-push (λ k key. (n : Network) → slice_get c.args.networks.now k ≡ Some n → IsKey k n key)
-    c.loop-place.place c.loop-place.keys.items c.key_of.result c.loop-place.invariant c.key_of.ensures)
+    c.loop-place.place c.loop-place.keys.items c.key_of.result c.loop-place.invariant
+    (rw c.nth.ensures.place at c.key_of.ensures))
 
 pub returns : goal.returns
 returns c =

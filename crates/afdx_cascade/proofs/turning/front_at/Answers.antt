@@ -33,7 +33,7 @@ returns-clause-arrives c p at r rest so_far plan st are =
           (c.tag-tag.ensures ∙ ap (λ (l : Left HeldFrame). l.item.tag) parts.0.left);
       side = c.side-side.ensures ∙ parts.0.side;
       to = parts.0.to;
-      stands = subst (λ (n : List Network). Stands p n at rest (arriving p so_far c.in-Some.front.now.switch
+      stands = subst (λ (n : List Network). Stands p n at rest (arriving p so_far c.in-Some.front.now.switch.0
           (brought r.side c.in-Some.front.now.port r.turn) ∷ so_far)) (sym c.give_back_at.ensures)
           (c.in_ok-verdict.ensures.stands p at r rest so_far plan st parts.0.to parts.0.side parts.0.left);
       in_transit = subst (λ w. AreInTransit p w rest) (sym c.pop_front.ensures.rest) parts.1;
@@ -49,5 +49,5 @@ returns-in_err-verdict-clause-judged c p at r rest so_far v st here on =
     let same = front-one c.args.transit.now.items v c.in-Some.front.now here c.in-Some.ensures.lookup in
     let it = subst (λ (z : InTransit). IsInTransit p z r) same on in
     on-err c.from_residual.result _
-    (subst (λ (z : InTransit). shape_fault (p.tables z.switch) (brought r.side z.port r.turn) ≡ None) (sym same)
+    (subst (λ (z : InTransit). shape_fault (p.tables z.switch.0) (brought r.side z.port r.turn) ≡ None) (sym same)
     (c.in_err-verdict.ensures.judged p at r rest so_far st it.side it.left))

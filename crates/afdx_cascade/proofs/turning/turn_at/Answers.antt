@@ -18,7 +18,7 @@ returns-then-too_old c = record {
   none = λ n at. tt;
   gives = λ p at ring so_far plan ends st transit.
       let g = c.in_ok-departure.ensures.gives p at ring so_far plan st in
-      turns-ended p c.take_at.new.networks c.args.transit.now.items at ring so_far c.args.switch c.args.until
+      turns-ended p c.take_at.new.networks c.args.transit.now.items at ring so_far c.args.switch.0 c.args.until
       c.in_ok-departure.departure g transit
       (inl (sym (ap (λ (l : Left HeldFrame). l.too_old) g.hands.left) ∙ sym c.too_old.ensures
       ∙ c.if-too_old.true));
@@ -32,7 +32,7 @@ returns-then-time-gt-LATEST_ARRIVAL c = record {
   none = λ n at. tt;
   gives = λ p at ring so_far plan ends st transit.
       let g = c.in_ok-departure.ensures.gives p at ring so_far plan st in
-      turns-ended p c.take_at.new.networks c.args.transit.now.items at ring so_far c.args.switch c.args.until
+      turns-ended p c.take_at.new.networks c.args.transit.now.items at ring so_far c.args.switch.0 c.args.until
       c.in_ok-departure.departure g transit
       (let t = c.time-time.ensures ∙ ap (λ (l : Left HeldFrame). l.end) g.hands.left in
       let late = c.if-time-gt-LATEST_ARRIVAL.true in inr (inr (omega (arith, t, late))));
@@ -47,8 +47,8 @@ returns-in-None c = record {
   gives = λ p at ring so_far plan ends st transit.
       let g = c.in_ok-departure.ensures.gives p at ring so_far plan st in
       let port : c.port-port.result ≡ g.departure.port = c.port-port.ensures ∙ g.hands.port in
-      let k = c.args.switch in
-      turns-ended p c.take_at.new.networks c.args.transit.now.items at ring so_far c.args.switch c.args.until
+      let k = c.args.switch.0 in
+      turns-ended p c.take_at.new.networks c.args.transit.now.items at ring so_far c.args.switch.0 c.args.until
       c.in_ok-departure.departure g transit
       (inr (inl (ends k g.departure.port g.next.port_last
       ∙ ap (λ n. end_of (entry_in (slice_get c.args.ends.now (k * 25 + n)))) (sym port)
@@ -64,14 +64,14 @@ returns-in-Some c = record {
   gives = λ p at ring so_far plan ends st transit.
       let g = c.in_ok-departure.ensures.gives p at ring so_far plan st in
       let port : c.port-port.result ≡ g.departure.port = c.port-port.ensures ∙ g.hands.port in
-      let k = c.args.switch in
+      let k = c.args.switch.0 in
       let left : g.departure.turn.too_old ≡ false = sym (ap (λ (l : Left HeldFrame). l.too_old) g.hands.left)
       ∙ sym c.too_old.ensures ∙ c.if-too_old.false in
       let cable : p.far_end k g.departure.port ≡ Some (end_at c.in-Some.to.switch.0 c.in-Some.to.port) =
       ends k g.departure.port g.next.port_last
       ∙ ap (λ n. end_of (entry_in (slice_get c.args.ends.now (k * 25 + n)))) (sym port)
       ∙ ap end_of (sym c.far_end.ensures ∙ c.in-Some.is) in
-      turns-carried p c.take_at.new.networks c.args.transit.now.items at ring so_far c.args.switch c.args.until
+      turns-carried p c.take_at.new.networks c.args.transit.now.items at ring so_far c.args.switch.0 c.args.until
       c.in_ok-departure.departure g transit
       (record {
         switch = c.args.switch;
@@ -81,7 +81,7 @@ returns-in-Some c = record {
       c.time-time.result
       c.tag-tag.result
       (record {
-        switch = c.in-Some.to.switch.0;
+        switch = c.in-Some.to.switch;
         port = c.in-Some.to.port;
         from = c.args.switch;
         departure = c.in_ok-departure.departure;

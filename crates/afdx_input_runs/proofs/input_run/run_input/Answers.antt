@@ -10,7 +10,7 @@ use Rattle.afdx_input_runs.proofs.input_run.run_input.Goals as goal
 -- the look failed
 pub returns-then-look-clause-calls : goal.returns-then-look-clause-calls
 returns-then-look-clause-calls g c =
-    unread-few c.args.options (left_in g.R.Read.remaining c.args.input.now.inner)
+    unread-few c.args.options.are_given (left_in g.R.Read.remaining c.args.input.now.inner)
     (left_in g.R.Read.remaining c.look.new.self.inner) c.args.input.now.calls c.look.new.self.calls
     c.look.ensures.left c.look.ensures.calls
 
@@ -22,14 +22,14 @@ returns-then-look-clause-answer g c law start can =
     unread-answers kind (thing_of kind g.F.LineForm.says_of) (options_of c.args.options) (ports_unsaid reading.unsaid)
     (g.M.Machine.Done law c.args.machine.now old old) (g.M.Machine.Told law c.args.machine.now old old)
     (g.M.Machine.Begins law c.args.machine.now old old) start
-    (λ bytes. is_recorded c.args.options (take looked_at bytes))
+    (λ bytes. is_recorded c.args.options.are_given (take looked_at bytes))
     (left_in g.R.Read.remaining c.args.input.now.inner)
     (left_in g.R.Read.remaining c.look.new.self.inner) c.look.ensures.left
 
 -- or nothing was lost by it
 pub returns-clause-calls : goal.returns-clause-calls
 returns-clause-calls g c =
-    looked-asked c.args.options (left_in g.R.Read.remaining c.args.input.now.inner)
+    looked-asked c.args.options.are_given (left_in g.R.Read.remaining c.args.input.now.inner)
     (left_in g.R.Read.remaining c.look.new.self.inner) (left_in g.R.Read.remaining c.run_looked.new.input.inner)
     (held c.look.new.self.inner) c.args.input.now.calls c.look.new.self.calls c.run_looked.new.input.calls
     c.look.ensures.left (c.look.ensures.first c.if-look.false) c.look.ensures.calls c.run_looked.ensures.calls

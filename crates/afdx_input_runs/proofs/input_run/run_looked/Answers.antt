@@ -19,10 +19,10 @@ returns-in_err-tally-clause-answer g c law start can =
     let old = g.O.Sink.written c.args.output.now in
     let new = g.O.Sink.written c.run_recorded.new.output in
     let machine = c.run_recorded.new.machine in
-    let is : is_recorded c.args.options (held c.args.input.now.inner) ≡ true = search rules in
+    let is : is_recorded c.args.options.are_given (held c.args.input.now.inner) ≡ true = search rules in
     let h = as-recorded kind (thing_of kind g.F.LineForm.says_of) (options_of c.args.options)
     (ports_unsaid reading.unsaid) (g.M.Machine.Done law machine old new) (g.M.Machine.Told law machine old new)
-    (g.M.Machine.Begins law machine old new) (is_recorded c.args.options (held c.args.input.now.inner))
+    (g.M.Machine.Begins law machine old new) (is_recorded c.args.options.are_given (held c.args.input.now.inner))
     (left_in g.R.Read.remaining c.args.input.now.inner) (left_in g.R.Read.remaining c.run_recorded.new.input.inner)
     (Err c.in_err-tally.field-0.0) is
     (c.in_err-tally.ensures.answer law start (λ item entered. can item (inr entered))) in

@@ -1,24 +1,14 @@
-use Rattle.std.proofs.Common.{refl, inl, inr}
+use Rattle.std.proofs.Common.{refl, inl, inr, true}
 use Rattle.afdx_replay.proofs.listing.list_and_count.Goals as goal
 
 pub returns-in-Err-clause-calls : goal.returns-in-Err-clause-calls
-returns-in-Err-clause-calls g c = inl (c.starts.ensures.asked c.args.options c.args.input.now c.requires.new)
+returns-in-Err-clause-calls g c = c.starts.ensures.asked true c.args.input.now c.requires.new
 
 pub returns-in-Err-clause-lists : goal.returns-in-Err-clause-lists
 returns-in-Err-clause-lists g c = inr (
   rw c.without_counts.ensures.status c.in-Err.ensures.refused,
   c.without_counts.ensures.tally,
   (refl, refl),
-)
-
-pub returns-clause-calls : goal.returns-clause-calls
-returns-clause-calls g c = inr (
-  c.in-Ok.described,
-  record {
-    placed = c.read_placed.new.options;
-    are_placed = c.in-Ok.ensures.placed;
-    so_is = c.list_numbers-answer.ensures.calls;
-  },
 )
 
 pub returns-clause-lists : goal.returns-clause-lists

@@ -24,7 +24,7 @@ renew-self-requires c =
 pub returns-clause-next : goal.returns-clause-next
 returns-clause-next c p so_far st free =
     let x : Arrival = arrival_with c.args.tag c.args.time c.args.side c.args.port (bytes_of c.args.frame) in
-    let k = c.args.switch in
+    let k = c.args.switch.0 in
     let old = c.args.self.now in
     let ns = c.arrive_at.new.networks in
     let new : Cascade = record {

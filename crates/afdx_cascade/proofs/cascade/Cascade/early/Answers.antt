@@ -5,8 +5,8 @@ use Rattle.afdx_cascade.proofs.cascade.Cascade.early.Goals as goal
 
 pub early_at-requires-clause-clock : goal.early_at-requires-clause-clock
 early_at-requires-clause-clock c n at =
-    c.requires.clock.networks c.args.switch n
-    (subst (λ zs. slice_get zs c.args.switch ≡ Some n) c.deref.ensures.value at)
+    c.requires.clock.networks c.args.switch.0 n
+    (subst (λ zs. slice_get zs c.args.switch.0 ≡ Some n) c.deref.ensures.value at)
 
 pub returns : goal.returns
 returns c p so_far tag st fault =

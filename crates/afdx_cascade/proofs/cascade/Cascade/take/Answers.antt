@@ -66,8 +66,8 @@ returns-in-Some-clause-given c p so_far st =
     b c.in-Some.is c.in_ok-brought.ensures.others) in
     let keys = subst (λ zs. AreKeys zs c.renew-self.new.keys.items) there
     (c.renew-self.ensures.keys old.networks.items st.keys
-    (subst (λ zs. AreOthersSame c.switch-switch.result old.networks.items zs) (sym (there ∙ is))
-    (subst (λ zs. AreOthersSame c.switch-switch.result zs ns) lent others))
+    (subst (λ zs. AreOthersSame c.switch-switch.result.0 old.networks.items zs) (sym (there ∙ is))
+    (subst (λ zs. AreOthersSame c.switch-switch.result.0 zs ns) lent others))
     (ap length (there ∙ is) ∙ size)) in
     came-next p so_far old new c.args.until st c.requires.clock refl (ap length is ∙ size) keys
     (c.renew-self.ensures.least st.least) b
@@ -168,7 +168,7 @@ returns-in-Some-2-clause-given c p so_far st =
     let now_is = with_items_is (with_items old.networks ns) ms (size ∙ sym old.networks.ok.0) in
     let there = c.deref-in-Some-2.ensures.value in
     let turns = some-of c.in_ok-turned.field-0
-    (TurnsNext p ms c.turn_next.new.transit.items c.args.until so_far f.switch)
+    (TurnsNext p ms c.turn_next.new.transit.items c.args.until so_far f.switch.0)
     c.in-Some-2.turned c.in-Some-2.is
     (c.in_ok-turned.ensures.turns p st.time st.ring so_far
     (subst (λ zs. Keeps p zs st.time st.ring so_far) (sym again) st.keeps) early
@@ -176,13 +176,13 @@ returns-in-Some-2-clause-given c p so_far st =
     (subst (λ vs. AreInTransit p vs st.ring) (sym same.1) st.in_transit)) in
     let keys = subst (λ zs. AreKeys zs c.renew-self-in-Some-2.new.keys.items) there
     (c.renew-self-in-Some-2.ensures.keys old.networks.items st.keys
-    (subst (λ zs. AreOthersSame f.switch old.networks.items zs) (sym (there ∙ now_is))
-    (subst (λ zs. AreOthersSame f.switch zs ms) again c.turn_next.ensures.others))
+    (subst (λ zs. AreOthersSame f.switch.0 old.networks.items zs) (sym (there ∙ now_is))
+    (subst (λ zs. AreOthersSame f.switch.0 zs ms) again c.turn_next.ensures.others))
     (ap length (there ∙ now_is) ∙ size)) in
     over-next p so_far old new c.args.until st c.requires.clock refl (ap length now_is ∙ size) keys
     (c.renew-self-in-Some-2.ensures.least st.least)
-    f.switch c.in-Some-2.turned
-    (subst (λ zs. TurnsNext p zs c.turn_next.new.transit.items c.args.until so_far f.switch c.in-Some-2.turned)
+    f.switch.0 c.in-Some-2.turned
+    (subst (λ zs. TurnsNext p zs c.turn_next.new.transit.items c.args.until so_far f.switch.0 c.in-Some-2.turned)
     (sym now_is) turns)
 
 -- nothing comes next
@@ -253,6 +253,6 @@ returns-in_err-turned-clause-judged c p so_far st =
     (subst (λ zs. Keeps p zs st.time st.ring so_far) (sym lent) st.keeps) st.in_transit) in
     let again = c.deref_mut-2.ensures.value ∙ is ∙ same.0 ∙ lent in
     on-err c.from_residual-in_err-turned.result _
-    (turn-to-come p so_far c.args.until f.switch
+    (turn-to-come p so_far c.args.until f.switch.0
     (c.in_err-turned.ensures.judged p st.time st.ring so_far
     (subst (λ zs. Keeps p zs st.time st.ring so_far) (sym again) st.keeps) early))

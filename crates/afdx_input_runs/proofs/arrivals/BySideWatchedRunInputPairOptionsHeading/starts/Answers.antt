@@ -7,7 +7,7 @@ pub returns-clause-sound : goal.returns-clause-sound
 returns-clause-sound g c input fresh = rw (fresh.a.sound, fresh.b.sound) refl
 
 pub returns-clause-asked : goal.returns-clause-asked
-returns-clause-asked g c options input fresh = (
+returns-clause-asked g c settled input fresh = (
   unasked (g.R.Read.remaining (device_of input.a)) (calls_of input.a),
   unasked (g.R.Read.remaining (device_of input.b)) (calls_of input.b),
 )

@@ -1,4 +1,4 @@
-use Rattle.std.proofs.Common.{rules, Ok, Err}
+use Rattle.std.proofs.Common.{rules, ◌≡◌, inr, Ok, Err}
 use Rattle.afdx_input_lines.specs.Watching.{device_of}
 use Rattle.afdx_input_sources.specs.Claims.{ports_unsaid}
 use Rattle.afdx_input_runs.specs.RecordingRun.{AreCutOffInPair, taken_of_pair}
@@ -6,7 +6,8 @@ use Rattle.afdx_input_runs.proofs.TookLemmas.{two-took}
 use Rattle.afdx_input_runs.proofs.arrivals.BySideWatchedRunInputPairOptionsHeading.tell_all.Goals as goal
 
 pub run_pair-requires-clause-told : goal.run_pair-requires-clause-told
-run_pair-requires-clause-told g c = c.requires.told
+run_pair-requires-clause-told g c =
+    let told = c.requires.told in (told.0, told.1, λ item entered. told.2 item (inr entered))
 
 pub returns-in_err-tally-clause-answer : goal.returns-in_err-tally-clause-answer
 returns-in_err-tally-clause-answer g c law start can =
@@ -18,8 +19,9 @@ returns-in_err-tally-clause-answer g c law start can =
     (g.M.Machine.Begins law machine old new) (taken_of_pair c.args.options ports)
     (λ a b. AreCutOffInPair c.args.options ports g.R.Read.remaining a b c.run_pair.new.inputs)
     (g.R.Read.remaining (device_of c.args.self.now.a)) (g.R.Read.remaining (device_of c.args.self.now.b))
-    (Err c.in_err-tally.field-0.0) (c.in_err-tally.ensures.answer law start can) in
-    search rules
+    (Err c.in_err-tally.field-0.0) (c.in_err-tally.ensures.answer law start (λ item entered. can item (inr entered))) in
+    let e : c.from_residual.result ≡ Err c.in_err-tally.field-0.0 = search rules in
+    rw e h
 
 pub returns-clause-answer : goal.returns-clause-answer
 returns-clause-answer g c law start can =
@@ -31,4 +33,4 @@ returns-clause-answer g c law start can =
     (g.M.Machine.Begins law machine old new) (taken_of_pair c.args.options ports)
     (λ a b. AreCutOffInPair c.args.options ports g.R.Read.remaining a b c.run_pair.new.inputs)
     (g.R.Read.remaining (device_of c.args.self.now.a)) (g.R.Read.remaining (device_of c.args.self.now.b))
-    (Ok c.in_ok-tally.tally) (c.in_ok-tally.ensures.answer law start can)
+    (Ok c.in_ok-tally.tally) (c.in_ok-tally.ensures.answer law start (λ item entered. can item (inr entered)))

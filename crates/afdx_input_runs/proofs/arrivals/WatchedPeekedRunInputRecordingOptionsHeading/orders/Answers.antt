@@ -8,5 +8,5 @@ use Rattle.afdx_input_runs.proofs.arrivals.WatchedPeekedRunInputRecordingOptions
 
 pub returns : goal.returns
 returns g c options ports bytes rest past answer h =
-    one-ordered (options_of options) ports (is_read_recorded options (Some bytes)) bytes
+    one-ordered (options_of options) ports (is_read_recorded options.are_given (Some bytes)) bytes
     (left_in g.R.Read.remaining (device_of rest)) past answer h

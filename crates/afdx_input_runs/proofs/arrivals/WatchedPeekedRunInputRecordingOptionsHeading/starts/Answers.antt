@@ -6,6 +6,6 @@ use Rattle.afdx_input_runs.proofs.LookLemmas.{unread-few}
 use Rattle.afdx_input_runs.proofs.arrivals.WatchedPeekedRunInputRecordingOptionsHeading.starts.Goals as goal
 
 pub returns-clause-asked : goal.returns-clause-asked
-returns-clause-asked g c options input fresh =
+returns-clause-asked g c settled input fresh =
     let left = left_in g.R.Read.remaining (device_of input) in
-    unread-few options left left (calls_of input) (calls_of input) (Keeps-refl left) (omega arith)
+    unread-few settled left left (calls_of input) (calls_of input) (Keeps-refl left) (omega arith)

@@ -6,4 +6,4 @@ use Rattle.afdx_input_runs.proofs.arrivals.WatchedPeekedRunInputRecordingOptions
 
 pub returns : goal.returns
 returns g c kind said options ports bytes input fresh known =
-    rw known (one-untaken kind said (options_of options) ports (is_read_recorded options (Some bytes)) bytes)
+    rw known (one-untaken kind said (options_of options) ports (is_read_recorded options.are_given (Some bytes)) bytes)

@@ -17,6 +17,7 @@ returns-clause-answer g c rules start can =
     one-took kind (thing_of kind g.F.LineForm.says_of) (g.M.Machine.Done rules machine old new)
     (g.M.Machine.Told rules machine old new) (g.M.Machine.Begins rules machine old new)
     (options_of c.args.options) (ports_unsaid reading.unsaid)
-    (λ bytes. is_recorded c.args.options (take looked_at bytes)) (left_in g.R.Read.remaining c.args.self.now.inner)
+    (λ bytes. is_recorded c.args.options.are_given (take looked_at bytes))
+    (left_in g.R.Read.remaining c.args.self.now.inner)
     (left_in g.R.Read.remaining c.run_input.new.input.inner) c.run_input.result
     (c.run_input.ensures.answer rules start can)

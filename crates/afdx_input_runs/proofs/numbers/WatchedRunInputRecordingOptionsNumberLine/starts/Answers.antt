@@ -6,4 +6,4 @@ pub returns-clause-sound : goal.returns-clause-sound
 returns-clause-sound g c input fresh = fresh.sound
 
 pub returns-clause-asked : goal.returns-clause-asked
-returns-clause-asked g c options input fresh = unasked (g.R.Read.remaining (device_of input)) (calls_of input)
+returns-clause-asked g c settled input fresh = unasked (g.R.Read.remaining (device_of input)) (calls_of input)

@@ -5,4 +5,4 @@ pub returns-clause-sound : goal.returns-clause-sound
 returns-clause-sound g c input fresh = rw (fresh.came.sound, fresh.left.sound) refl
 
 pub returns-clause-asked : goal.returns-clause-asked
-returns-clause-asked g c options input fresh = (omega arith, omega arith)
+returns-clause-asked g c settled input fresh = (omega arith, omega arith)

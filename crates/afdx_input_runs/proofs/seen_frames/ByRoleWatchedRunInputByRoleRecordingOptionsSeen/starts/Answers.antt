@@ -7,7 +7,7 @@ pub returns-clause-sound : goal.returns-clause-sound
 returns-clause-sound g c input fresh = rw (fresh.came.sound, fresh.left.sound) refl
 
 pub returns-clause-asked : goal.returns-clause-asked
-returns-clause-asked g c options input fresh = (
+returns-clause-asked g c settled input fresh = (
   unasked (g.R.Read.remaining (device_of input.came)) (calls_of input.came),
   unasked (g.R.Read.remaining (device_of input.left)) (calls_of input.left),
 )

@@ -5,7 +5,7 @@ use Rattle.afdx_input_sources.specs.Claims.{ports_of_several}
 use Rattle.afdx_input_sources.specs.Items.{thing_of}
 use Rattle.afdx_replay.specs.cascading.Input.{TakesSited}
 use Rattle.afdx_replay.specs.cascading.Ran.{lists}
-use Rattle.afdx_replay.proofs.CascadeOverLemmas.{first-told, replays-none, replays-told}
+use Rattle.afdx_replay.proofs.CascadeOverLemmas.{come-there, first-told, replays-none, replays-told}
 use Rattle.afdx_replay.proofs.SiteLemmas.{sites-count}
 use Rattle.afdx_replay.proofs.cascading.over.replay_sited.Goals as goal
 
@@ -48,7 +48,8 @@ tell_all-count-requires-clause-told g c =
           c.with_early-teller.result c.args.early (g.O.Sink.written c.args.output.now)
           (c.in-Ok-new.ensures.told (g.O.Sink.written c.args.output.now)) c.in-Ok-new.ensures.clock
           c.in-Ok-new.ensures.steady more.switches more.systems more.counts more.early,
-      λ item come. c.requires.there item (rw (c.as_slice.ensures.value, c.in-Ok.ensures) at come),
+      λ item come. come-there ss (λ x. g.P.Placing.Enters c.args.options (ports_of_several ss) x) c.requires.there
+          item (rw (c.as_slice.ensures.value, c.in-Ok.ensures) at come),
     )
 
 -- the input came to its end
@@ -65,7 +66,8 @@ returns-in-Ok-count-clause-replays g c =
     c.with_early-teller.result early old (c.in-Ok-new.ensures.told old) c.in-Ok-new.ensures.clock
     c.in-Ok-new.ensures.steady more.switches more.systems more.counts more.early in
     let answer = c.in-Ok-count.ensures.answer (ss, early) start
-    (λ item come. c.requires.there item (rw (c.as_slice.ensures.value, c.in-Ok.ensures) at come)) in
+    (λ item come. come-there ss (λ x. g.P.Placing.Enters c.args.options (ports_of_several ss) x) c.requires.there
+    item (rw (c.as_slice.ensures.value, c.in-Ok.ensures) at come)) in
     let taken = rw (c.as_slice.ensures.value, c.in-Ok.ensures) at answer in
     rw c.of.ensures (replays-told contents ss early ended.machine old (g.O.Sink.written ended.output)
     (g.A.RunInput.known first)
@@ -86,7 +88,8 @@ returns-clause-replays g c =
     c.with_early-teller.result early old (c.in-Ok-new.ensures.told old) c.in-Ok-new.ensures.clock
     c.in-Ok-new.ensures.steady more.switches more.systems more.counts more.early in
     let answer = c.in-Err-count.ensures.answer (ss, early) start
-    (λ item come. c.requires.there item (rw (c.as_slice.ensures.value, c.in-Ok.ensures) at come)) in
+    (λ item come. come-there ss (λ x. g.P.Placing.Enters c.args.options (ports_of_several ss) x) c.requires.there
+    item (rw (c.as_slice.ensures.value, c.in-Ok.ensures) at come)) in
     let taken = rw (c.as_slice.ensures.value, c.in-Ok.ensures) at answer in
     replays-told contents ss early ended.machine old (g.O.Sink.written ended.output) (g.A.RunInput.known first)
     (λ bytes. g.A.RunInput.Takes (TakesSited ss) c.args.options (ports_of_several ss) bytes ended.self)

@@ -15,5 +15,5 @@ unfolding sites_of
 returns c =
     let ss = c.args.switches.now in
     let all : c.loop-place.place ≡ length ss =
-    omega (arith, c.loop-place-test.false, c.loop-place.auto.place-end, c.count-place-end.ensures.count) in
+    omega (arith, c.loop-place-test.false, c.loop-place.auto.place-end, c.id_count-place-end.ensures.count) in
     c.loop-place.invariant ∙ ap (λ n. map (site_of ss) (range_with_len 0 n)) all

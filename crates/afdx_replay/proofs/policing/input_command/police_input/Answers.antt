@@ -7,7 +7,8 @@ use Rattle.afdx_replay.proofs.ReplaysLemmas.{ends-in}
 use Rattle.afdx_replay.proofs.policing.input_command.police_input.Goals as goal
 
 pub returns-in_default-clause-calls : goal.returns-in_default-clause-calls
-returns-in_default-clause-calls g c = c.starts.ensures.asked c.args.options c.args.input.now c.requires.new
+returns-in_default-clause-calls g c =
+    c.starts.ensures.asked (g.P.Placing.is_settled c.args.options) c.args.input.now c.requires.new
 
 pub returns-clause-polices : goal.returns-clause-polices
 returns-clause-polices g c commanded = (

@@ -7,7 +7,8 @@ use Rattle.afdx_replay.proofs.replaying.input_command.replay_input.Goals as goal
 
 -- the configuration has a fault, or not a place of the options
 pub returns-in-Err-clause-calls : goal.returns-in-Err-clause-calls
-returns-in-Err-clause-calls g c = c.starts.ensures.asked c.args.settings.options c.args.input.now c.requires.new
+returns-in-Err-clause-calls g c =
+    c.starts.ensures.asked (g.P.Placing.is_settled c.args.settings.options) c.args.input.now c.requires.new
 
 pub returns-in-Err-clause-replays : goal.returns-in-Err-clause-replays
 returns-in-Err-clause-replays g c = inr (
@@ -20,7 +21,7 @@ returns-in-Err-clause-replays g c = inr (
 -- or what it describes is not admitted
 pub returns-in-Err-take_described-clause-calls : goal.returns-in-Err-take_described-clause-calls
 returns-in-Err-take_described-clause-calls g c =
-    c.starts.ensures.asked c.args.settings.options c.args.input.now c.requires.new
+    c.starts.ensures.asked (g.P.Placing.is_settled c.args.settings.options) c.args.input.now c.requires.new
 
 pub returns-in-Err-take_described-clause-replays : goal.returns-in-Err-take_described-clause-replays
 returns-in-Err-take_described-clause-replays g c =
@@ -43,7 +44,7 @@ returns-in-Err-take_described-clause-replays g c =
 pub replay_taken-answer-requires-clause-there : goal.replay_taken-answer-requires-clause-there
 replay_taken-answer-requires-clause-there g c =
     let placed = c.read_placed.new.options in
-    are-there (λ ss options. AreThere ss g.A.RunInput.CanCome options) placed
+    are-there (λ ss options. AreThere ss g.P.Placing.Enters options) placed
     (λ d. g.P.Placing.ArePlaced d c.args.settings.options placed)
     c.in-Ok.described (described_of c.in-Ok-take_described.taken) c.in-Ok-take_described.ensures.same
     c.in-Ok.ensures.read.lawful (λ ss are is. c.places.ensures.there ss c.args.settings.options placed are is)
@@ -51,8 +52,9 @@ replay_taken-answer-requires-clause-there g c =
 
 pub returns-clause-calls : goal.returns-clause-calls
 returns-clause-calls g c =
-    c.places.ensures.calls c.in-Ok.described c.args.settings.options c.read_placed.new.options c.args.input.now
-    c.replay_taken-answer.new.input c.in-Ok.ensures.placed c.replay_taken-answer.ensures.calls
+    let settled = c.places.ensures.settled c.in-Ok.described c.args.settings.options c.read_placed.new.options
+    c.in-Ok.ensures.placed in
+    rw settled at c.replay_taken-answer.ensures.calls
 
 pub returns-clause-replays : goal.returns-clause-replays
 returns-clause-replays g c = inl (

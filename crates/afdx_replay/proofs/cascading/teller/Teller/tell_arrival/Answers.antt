@@ -9,7 +9,7 @@ use Rattle.afdx_replay.proofs.cascading.teller.Teller.tell_arrival.Goals as goal
 pub returns-in_err-reason-clause-begun : goal.returns-in_err-reason-clause-begun
 returns-in_err-reason-clause-begun g c before h tells =
     let ss = c.args.self.now.switches.now in
-    let named = name-is ss c.args.at.switch c.name.result.now c.name.ensures.name in
+    let named = name-is ss c.args.at.switch.0 c.name.result.now c.name.ensures.name in
     on-err c.from_residual.result _ (begun-arrival ss before c.args.at c.args.tag c.args.verdict c.args.early h tells
     c.name.result.now
     (g.O.Sink.written c.args.output.now) (g.O.Sink.written c.tell_verdict.new.output) named
@@ -18,7 +18,7 @@ returns-in_err-reason-clause-begun g c before h tells =
 pub returns-then-is_over_rate-clause-told : goal.returns-then-is_over_rate-clause-told
 returns-then-is_over_rate-clause-told g c before h are tells =
     let ss = c.args.self.now.switches.now in
-    let named = name-is ss c.args.at.switch c.name.result.now c.name.ensures.name in
+    let named = name-is ss c.args.at.switch.0 c.name.result.now c.name.ensures.name in
     told-arrival ss before c.args.at c.args.tag c.args.verdict c.args.early h tells c.args.self.now.systems.items
     c.name.result.now c.args.self.now.counts c.tell_verdict.new.counts
     (g.O.Sink.written c.args.output.now) (g.O.Sink.written c.tell_verdict.new.output) named are
@@ -27,7 +27,7 @@ returns-then-is_over_rate-clause-told g c before h are tells =
 pub returns-else-is_over_rate-clause-told : goal.returns-else-is_over_rate-clause-told
 returns-else-is_over_rate-clause-told g c before h are tells =
     let ss = c.args.self.now.switches.now in
-    let named = name-is ss c.args.at.switch c.name.result.now c.name.ensures.name in
+    let named = name-is ss c.args.at.switch.0 c.name.result.now c.name.ensures.name in
     told-arrival ss before c.args.at c.args.tag c.args.verdict c.args.early h tells c.args.self.now.systems.items
     c.name.result.now c.args.self.now.counts c.tell_verdict.new.counts
     (g.O.Sink.written c.args.output.now) (g.O.Sink.written c.tell_verdict.new.output) named are
@@ -36,7 +36,7 @@ returns-else-is_over_rate-clause-told g c before h are tells =
 pub returns-in_default-clause-told : goal.returns-in_default-clause-told
 returns-in_default-clause-told g c before h are tells =
     let ss = c.args.self.now.switches.now in
-    let named = name-is ss c.args.at.switch c.name.result.now c.name.ensures.name in
+    let named = name-is ss c.args.at.switch.0 c.name.result.now c.name.ensures.name in
     told-arrival ss before c.args.at c.args.tag c.args.verdict c.args.early h tells c.args.self.now.systems.items
     c.name.result.now c.args.self.now.counts c.tell_verdict.new.counts
     (g.O.Sink.written c.args.output.now) (g.O.Sink.written c.tell_verdict.new.output) named are
@@ -45,7 +45,7 @@ returns-in_default-clause-told g c before h are tells =
 pub returns-then-is_over_rate-clause-heard : goal.returns-then-is_over_rate-clause-heard
 returns-then-is_over_rate-clause-heard g c before h start tells was =
     let ss = c.args.self.now.switches.now in
-    let named = name-is ss c.args.at.switch c.name.result.now c.name.ensures.name in
+    let named = name-is ss c.args.at.switch.0 c.name.result.now c.name.ensures.name in
     heard-early ss before c.args.at c.args.tag c.args.verdict c.args.early h tells g.D.Write.contents
     c.in_ok-reason.reason c.in_ok-reason.ensures.reason
     c.name.result.now start c.in-Some.drops c.tell_early.new.drops named

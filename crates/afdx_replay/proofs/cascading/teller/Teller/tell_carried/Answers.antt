@@ -7,7 +7,7 @@ use Rattle.afdx_replay.proofs.cascading.teller.Teller.tell_carried.Goals as goal
 pub returns-clause-told : goal.returns-clause-told
 returns-clause-told g c before d are is =
     let ss = c.args.self.now.switches.now in
-    let k = c.args.at.switch in
+    let k = c.args.at.switch.0 in
     let name = c.name-name.result.now in
     let named = name-is ss k name c.name-name.ensures.name in
     told-carried ss c.args.self.now.systems.items k before name named c.args.at c.args.time
@@ -18,7 +18,7 @@ returns-clause-told g c before d are is =
 pub returns-in_err-put-clause-begun : goal.returns-in_err-put-clause-begun
 returns-in_err-put-clause-begun g c before d is =
     let ss = c.args.self.now.switches.now in
-    let k = c.args.at.switch in
+    let k = c.args.at.switch.0 in
     let name = c.name-name.result.now in
     let named = name-is ss k name c.name-name.ensures.name in
     on-err c.from_residual.result _

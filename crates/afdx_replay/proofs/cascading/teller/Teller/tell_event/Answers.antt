@@ -32,7 +32,7 @@ returns-in-Ended-clause-heard g c before h start tells was =
     let ss = c.args.self.now.switches.now in
     let it = subst (λ v. TellsEvent (plan_of ss) before v h) c.in-Ended.is tells in
     on-ok c.tell_ended.result (rw c.tell_ended.ensures.early
-    (heard-left ss before h c.in-Ended.switch it.0 it.1 g.D.Write.contents start c.args.self.now.early was))
+    (heard-left ss before h c.in-Ended.switch.0 it.0 it.1 g.D.Write.contents start c.args.self.now.early was))
 
 pub returns-in-Carried-clause-told : goal.returns-in-Carried-clause-told
 returns-in-Carried-clause-told g c before h are tells =
@@ -58,7 +58,7 @@ returns-in-Carried-clause-heard g c before h start tells was =
     let ss = c.args.self.now.switches.now in
     let it = subst (λ v. TellsEvent (plan_of ss) before v h) c.in-Carried.is tells in
     on-ok c.tell_carried.result (rw c.tell_carried.ensures.early
-    (heard-left ss before h c.in-Carried.at.switch it.0 it.1 g.D.Write.contents start c.args.self.now.early was))
+    (heard-left ss before h c.in-Carried.at.switch.0 it.0 it.1 g.D.Write.contents start c.args.self.now.early was))
 
 pub returns-in-Came-clause-told : goal.returns-in-Came-clause-told
 returns-in-Came-clause-told g c before h are tells =

@@ -17,24 +17,22 @@ use Rattle.afdx_config.specs.Switches as switches
 use Rattle.afdx_config.specs.Switches.{NamedRows, AreSwitches, far_end, if_neighbour, neighbour_at_port, switch_named}
 use Rattle.afdx_config.specs.declared.describing.Described.TheVariants.{Several}
 use Rattle.afdx_config.specs.declared.switches.FarEnd.{FarEnd}
-use Rattle.afdx_cascade.specs.Turning.{end_of}
 use Rattle.afdx_input_lines.specs.declared.frame_line.Heading.{Heading}
 use Rattle.afdx_input_sources.specs.Engine.{Item}
 use Rattle.afdx_input_sources.specs.Becoming.{entry_of, only_if, options_of}
 use Rattle.afdx_input_sources.specs.Claims.{entry_from, own_systems, port_of_system, ports_of_several}
 use Rattle.afdx_input_sources.specs.Claims.{sender_of}
-use Rattle.afdx_input_sources.specs.Entering.{IsEntered, entry_in}
+use Rattle.afdx_input_sources.specs.Entering.{IsEntered, IsEnteredInPair, entry_in}
+use Rattle.afdx_input_sources.specs.PairOptions.{options_of_a, options_of_b}
 use Rattle.afdx_input_sources.specs.Places.{allows, entry_at, names_of, place_of}
-use Rattle.afdx_input_sources.specs.Placing.{ArePlaced, OptionsArePlaced, PairIsPlaced, at_known, at_switch, is_free}
-use Rattle.afdx_input_sources.specs.Placing.{place_in, switch_by}
+use Rattle.afdx_input_sources.specs.Placing.{ArePlaced, IsAtOpenPort, OptionsArePlaced, PairIsPlaced, at_known, at_switch}
+use Rattle.afdx_input_sources.specs.Placing.{is_free, place_in, switch_by}
 use Rattle.afdx_input_sources.specs.declared.becoming.RecordingOptions.{RecordingOptions}
 use Rattle.afdx_input_sources.specs.declared.pair_options.PairOptions.{PairOptions}
 use Rattle.afdx_input_sources.specs.declared.places.TapPort.{TapPort}
 use Rattle.afdx_input_sources.specs.declared.places.Interfaces.{Interfaces}
 use Rattle.afdx_input_sources.specs.declared.places.TapPoint.{TapPoint}
 use Rattle.afdx_input_sources.specs.declared.places.TapPoint.TheVariants as place
-use Rattle.afdx_input_runs.specs.RecordingRun.{IsEnteredBy}
-use Rattle.afdx_replay.specs.cascading.Sited.{IsAtPlace}
 
 -- ---- look-ups that found something
 
@@ -262,26 +260,26 @@ module _ (ss : List NamedRows) (are : AreSwitches ss) where
       of-place (place_of new i)
       (λ p is. placed-there ss (names_of old) (place_of old i) p (placed i ∙ ap (option_map Some) is)) bytes e h
 
-  at-place : (x : Item Heading) → IsAlone ss (entry_in x) → IsAtPlace ss x
-  at-place x h = record { within = h.within; free = ap end_of h.free }
+  at-open : (x : Item Heading) → IsAlone ss (entry_in x) → IsAtOpenPort ss x
+  at-open x h = record { within = h.within; free = h.free }
 
 -- ---- of one recording, and of two
 
 pub entered-at : (ss : List NamedRows) → AreSwitches ss → (old new : RecordingOptions)
     → OptionsArePlaced (Several ss) old new → (x : Item Heading)
-    → IsEntered (options_of new) (ports_of_several ss) x → IsAtPlace ss x
+    → IsEntered (options_of new) (ports_of_several ss) x → IsAtOpenPort ss x
 entered-at ss are old new placed x h =
-    at-place ss are x
+    at-open ss are x
     (of-interface ss are old.interfaces new.interfaces placed.placed h.interface h.bytes (entry_in x) h.says)
 
 pub entered-in-pair : (ss : List NamedRows) → AreSwitches ss → (old new : PairOptions)
     → PairIsPlaced (Several ss) old new → (x : Item Heading)
-    → IsEnteredBy new (ports_of_several ss) x → IsAtPlace ss x
+    → IsEnteredInPair (options_of_a new) (options_of_b new) (ports_of_several ss) x → IsAtOpenPort ss x
 entered-in-pair ss are old new placed x h = elim h [
   | inl a ↦
-      at-place ss are x
+      at-open ss are x
       (of-interface ss are old.interfaces.a new.interfaces.a placed.placed_a a.interface a.bytes (entry_in x) a.says)
   | inr b ↦
-      at-place ss are x
+      at-open ss are x
       (of-interface ss are old.interfaces.b new.interfaces.b placed.placed_b b.interface b.bytes (entry_in x) b.says)
 ]
