@@ -107,7 +107,7 @@ impl CheckedBytes {
     }
 
     /// They are forgotten: their memory is for others.
-    pub(crate) fn give_back(self, spare: &mut Spare) {
+    pub fn give_back(self, spare: &mut Spare) {
         let CheckedBytes { message, seal: _ } = self;
         spare.take_back(message);
     }

@@ -169,6 +169,7 @@ pub(crate) fn hear(
         Some(partner) => {
             own.pass(track, whole.time, whole.number);
             let copied = compare(terms, whole, &partner);
+            partner.give_back(spare);
             Ok(HeardFrame { alone, copied })
         }
         None => {
