@@ -8,5 +8,6 @@ pub mod SoundLemmas
 pub mod BeginLemmas
 pub mod PutLemmas
 pub mod TakeLemmas
+pub mod AloneLemmas
 pub mod FirstLemmas
 pub mod ServingLemmas

@@ -1,6 +1,6 @@
 //! The order in which ports are served together.
 
-ghost use Rattle.std.specs.Prelude.{◌≡◌, ◌≤◌, ◌↔◌, Option, IsTrue, IfSome};
+ghost use Rattle.std.specs.Prelude.{◌≡◌, ◌≤◌, ◌↔◌, Option, None, IsTrue, IfSome};
 ghost use Rattle.afdx_port.specs.Due.{given_at};
 ghost use Rattle.afdx_port.specs.Ports.{order_at, IsGivenBy};
 ghost use Rattle.afdx_port.specs.Times.{drain_end};
@@ -43,6 +43,15 @@ impl TurnOrder {
             time: self.0 / 2,
             too_old: self.0 % 2 == 1,
         })
+    }
+
+    /// Whether no turn is due.
+    #[inline]
+    pub(crate) fn is_without_turn(self) -> bool
+        ensures { (due : Option DueTurn) → self.0 ≡ order_at due →
+            IfSome due (λ d. given_at d ≤ drain_end) → (IsTrue result ↔ due ≡ None) }
+    {
+        self.0 >= WITHOUT_TURN
     }
 
     /// Whether the turn is given by `until`: a slot if it ends at or before, a drop if its moment

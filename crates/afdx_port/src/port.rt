@@ -76,6 +76,14 @@ impl<T: HasLength> Port<T> {
         requires quiet { IsQuiet T.facts self.old time }
         ensures { Puts T.facts self.old self.new time priority item result }
     {
+        if self.order.is_without_turn() {
+            let due = match self.state.put_alone(time, priority, item) {
+                Ok(due) => due,
+                Err(item) => return Err(item),
+            };
+            self.order = TurnOrder::of(Some(due));
+            return Ok(());
+        }
         let taken = self.state.put(time, priority, item, self.order);
         if !self.state.is_sending() {
             self.order = TurnOrder::of(self.state.due());

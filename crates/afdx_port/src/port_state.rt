@@ -1,7 +1,7 @@
 //! What a port still has to do: its two queues, and the frame that is being sent.
 
 ghost use Rattle.std.specs.Prelude.{◌≡◌, ℕ, ◌+◌, ◌-◌, ◌*◌, ◌/◌, ◌<◌, ◌≤◌, ◌^◌, ◌⊎◌, [], ◌∷◌};
-ghost use Rattle.std.specs.Prelude.{◌++◌, Some, None, IfOk};
+ghost use Rattle.std.specs.Prelude.{◌++◌, Some, None, IfOk, OnErr};
 ghost use Rattle.std.specs.Prelude.{IfSome, OnSome, IfNone, MatchOption};
 ghost use Rattle.std.specs.Prelude.{is_some, option_copied, slice_get, true};
 ghost use Rattle.afdx_frame.specs.Regulation.{slowest_byte};
@@ -124,16 +124,17 @@ impl<T: HasLength> PortState<T> {
         }
     }
 
-    /// The turn of a frame at `moment`.
+    /// The turn at `moment` of a frame that came at `time`.
     #[inline]
-    fn turn_of(&self, waiting: &Waiting<T>, moment: u64) -> Due
-        requires came { waiting.now.time ≤ moment }
+    fn turn_of(&self, time: u64, item: &T, moment: u64) -> Due
+        requires came { time ≤ moment }
         requires rate { self.now.byte_ns ≤ slowest_byte }
         requires fits { moment + longest_slot < 2 ^ 64 }
-        ensures { result ≡ due_from T.facts self.now.byte_ns waiting.now moment }
+        ensures { result ≡ due_from T.facts self.now.byte_ns
+            (record { time = time; item = item.now }) moment }
     {
-        let too_old = is_too_old(waiting.item.longest_wait(), waiting.time, moment);
-        let slot = (waiting.item.length() + WIRE_EXTRA) * self.byte_ns;
+        let too_old = is_too_old(item.longest_wait(), time, moment);
+        let slot = (item.length() + WIRE_EXTRA) * self.byte_ns;
         let lasts = if too_old { 0 } else { slot };
         Due {
             time: moment + lasts,
@@ -163,7 +164,7 @@ impl<T: HasLength> PortState<T> {
         }
         let (priority, moment) = self.next_choice()?;
         let front = self.front(priority)?;
-        Some(self.turn_of(front, moment))
+        Some(self.turn_of(front.time, &front.item, moment))
     }
 
     /// Takes the first frame of a class.
@@ -274,6 +275,30 @@ impl<T: HasLength> PortState<T> {
         self.push(priority, Waiting { time, item });
         self.waiting += length;
         Ok(())
+    }
+
+    /// Offers a frame to a port that holds none. Answers when its turn will be over.
+    #[inline]
+    pub(crate) fn put_alone(&mut self, time: u64, priority: Priority, item: T) -> Result<Due, T>
+        requires clock { self.old.clock ≤ time }
+        requires limit { time ≤ latest_put }
+        requires sound { IsPortSound T.facts self.old }
+        requires alone { due_of T.facts self.old ≡ None }
+        ensures sound { IsPortSound T.facts self.new }
+        ensures puts { Puts T.facts self.old self.new time priority item result }
+        ensures due { IfOk result (λ due. due_of T.facts self.new ≡ Some due) }
+        ensures limit { IfOk result (λ due. given_at due ≤ drain_end) }
+        ensures none { OnErr result (due_of T.facts self.new ≡ None) }
+    {
+        self.clock = time;
+        let length = item.length();
+        if self.waiting + length <= self.buffer {
+            let due = self.turn_of(time, &item, time.max(self.free));
+            self.push(priority, Waiting { time, item });
+            self.waiting += length;
+            return Ok(due);
+        }
+        Err(item)
     }
 
     /// Sets the clock.

@@ -116,12 +116,15 @@ impl Frame {
         })
     }
 
-    /// The copy, if this is its last share.
-    pub(crate) fn last(&self) -> Option<Rc<Stored>> {
-        if Rc::strong_count(&self.stored) > 1 {
-            return None;
-        }
-        self.stored.clone().ok()
+    /// Whether no other share of its copy is left.
+    #[inline(always)]
+    pub(crate) fn is_last(&self) -> bool {
+        Rc::strong_count(&self.stored) <= 1
+    }
+
+    /// The copy that it is a share of.
+    pub(crate) fn copy(&self) -> Result<Rc<Stored>, AllocError> {
+        self.stored.clone()
     }
 
     pub(crate) fn tag(&self) -> u64

@@ -70,11 +70,19 @@ impl Store {
     }
 
     /// Keeps the copy of a frame of which this is the last share, if there is room.
+    #[inline(always)]
     pub(crate) fn keep(&mut self, share: &Frame) {
+        if share.is_last() {
+            self.keep_copy(share);
+        }
+    }
+
+    /// Keeps the copy of the frame, if there is room.
+    fn keep_copy(&mut self, share: &Frame) {
         if self.kept.len() < KEPT
-            && let Some(stored) = share.last()
+            && let Ok(copy) = share.copy()
         {
-            let _kept = self.kept.push(stored);
+            let _kept = self.kept.push(copy);
         }
     }
 }
