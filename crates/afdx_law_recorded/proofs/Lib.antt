@@ -7,3 +7,6 @@ pub mod MessageLemmas
 pub mod ToldLemmas
 pub mod LeastLemmas
 pub mod NeededLemmas
+pub mod SwitchLemmas
+pub mod AllOnceLemmas
+pub mod WholeLemmas

@@ -5,6 +5,8 @@ ghost use Rattle.afdx_law_recorded.specs.OneSide.{SentIsWhatLeft};
 ghost use Rattle.afdx_law_recorded.specs.Pairs.{QuietIsInPairs, QuietIsNumbered, UncutIsInPairs};
 ghost use Rattle.afdx_law_recorded.specs.Receivers.{BothCarrySame, EachCarriesOne, LeastIsLeft};
 ghost use Rattle.afdx_law_recorded.specs.Receivers.{RecordedIsToldOnce};
+ghost use Rattle.afdx_law_recorded.specs.Switches.{AllComeOnce};
+ghost use Rattle.afdx_law_recorded.specs.Whole.{WholeIsMet};
 
 /// On one side: where nothing is found of what a system sent of a link there, and nothing of the
 /// link's stream at a receiver's port, nor is anything open, what left that port is exactly what
@@ -33,6 +35,15 @@ pub fn recorded_is_told_once()
     ensures same { BothCarrySame }
 {}
 
+/// Of all links of a switch a side: where no line is told of its systems as senders, on both sides,
+/// and of no stream at a receiver's port anything is found, nor is anything open, each receiver
+/// gets the messages to its UDP ports that a link's system sent, each once and in order; and on
+/// each side what left the receiver's port is exactly what the system sent there, in order and in
+/// time.
+pub fn all_come_once()
+    ensures { AllComeOnce }
+{}
+
 /// What the tables leave for how far apart copies may be sent is no more than each way of the link
 /// leaves.
 pub fn tables_leave_the_least()
@@ -40,7 +51,8 @@ pub fn tables_leave_the_least()
 {}
 
 /// All of these premises can be met: by a link of which two messages are sent on both networks,
-/// which are read once each; so they are where the end cuts off a copy.
+/// which are read once each. So they can where the end cuts off a copy, and of a whole switch of
+/// two systems.
 ///
 /// In three examples all but one are met, and a message is read twice: where a frame may take a
 /// nanosecond inside beyond its latency, where copies may be sent a nanosecond further apart than
@@ -48,5 +60,6 @@ pub fn tables_leave_the_least()
 pub fn premises_are_met()
     ensures met { PremisesAreMet }
     ensures cut { CutIsMet }
+    ensures whole { WholeIsMet }
     ensures needed { EachIsNeeded }
 {}
