@@ -7,14 +7,15 @@ from conform_claims import FILES, Judge
 from conform_terms import SENDERS, Options
 from frames import raw_line, sealed
 from program import Answer, answers, must
-from rows import CONFIGS
 from sender_made import KINDS_AMISS, SIDES, Recording, amiss, is_right, right, small
 from sender_made import small_recording
-from sender_rows import SENDER_ROWS, SenderRow, list_of
+from sender_rows import SENDER_CONFIGS, SENDER_ROWS, SenderRow, list_of
 from senders import conform_senders
 
-BASE = CONFIGS["base"]
-PORTS = (1, 1, 1, 1, 2, 3, 5)  # where a frame comes in that is moved
+BASE = SENDER_CONFIGS["base"]
+# of several switches those at whose fwd link 1's system stands, at port 1
+AT_FWD = ("two", "wide", "near", "slow")
+PORTS = (1, 1, 1, 1, 2, 3, 5, 24)  # where a frame comes in that is moved
 OUTPUT, WIRE = 3, 6_720  # where the frames of link 1 leave, and how long that takes
 ALONE = "what they sent: CAME alone"  # of a program's help, where it judges no streams beside
 NOTHING = " explained 0 open 0 uncertain 0 left-out 0 unseen 4 idle 0 "
@@ -24,20 +25,20 @@ VALUES = {"--slack": "slack", "--drift": "drift", "--apart": "apart", "--from": 
 
 
 def answer_of(
-    judge: Judge, came: bytes, left: bytes | None, words: tuple[str, ...]
+    judge: Judge, came: bytes, left: bytes | None, words: tuple[str, ...], config: bytes = BASE
 ) -> Answer:  # fmt: skip
     """What is answered of senders alone, or beside the streams to what left."""
     if judge.program is None:
-        return conform_senders(BASE, came, left, words)
-    inputs = [text for text in (BASE, came, left) if text is not None]
+        return conform_senders(config, came, left, words)
+    inputs = [text for text in (config, came, left) if text is not None]
     return judge.run(words, dict(zip(FILES, inputs)))
 
 
 def sender_row_holds(judge: Judge, row: SenderRow) -> None:
     """It answers as the row spells out."""
     wanted = row.answer()
-    answers(answer_of(judge, list_of(row.came), None, row.words()), wanted.status, wanted.out,
-            wanted.err)
+    found = answer_of(judge, list_of(row.came), None, row.words(), SENDER_CONFIGS[row.config])
+    answers(found, wanted.status, wanted.out, wanted.err)
 
 
 def words_of(options: Options) -> tuple[str, ...]:
@@ -104,7 +105,7 @@ def one_change(chance: random.Random, line: list[bytes]) -> list[list[bytes]]:
         side = chance.choice([b"A", b"B"])
     elif how == 5:
         content = bytearray.fromhex(digits.decode())[:-4]
-        content[chance.choice([5, 11, 20, 42, len(content) - 1])] = chance.choice([1, 2, 9, 64])
+        content[chance.choice([5, 11, 20, 42, len(content) - 1])] = chance.choice([1, 2, 3, 9, 64])
         digits = sealed(bytes(content)).hex().encode()
     elif how == 6:
         digits = chance.choice([digits[:8], digits[:-2], digits + b"00"])
@@ -138,9 +139,12 @@ def senders_alike(judge: Judge, seed: int, count: int) -> None:
         came, words = changed(chance, made), words_of(made.options)
         left = left_of(came) if chance.random() < 0.3 and not is_alone else None
         words += ("--leave-out", "2") if chance.random() < 0.1 else ()
-        wanted = conform_senders(BASE, came, left, words)
+        config = BASE
+        if left is None and chance.random() < 0.3:
+            config, words = SENDER_CONFIGS[chance.choice(AT_FWD)], (*words, "--switch", "fwd")
+        wanted = conform_senders(config, came, left, words)
         found |= {line.split()[0] for line in wanted.out.decode().splitlines()}
-        answers(answer_of(judge, came, left, words), wanted.status, wanted.out, wanted.err)
+        answers(answer_of(judge, came, left, words, config), wanted.status, wanted.out, wanted.err)
     must(count < 100 or found >= {"unlawful", "number", "soon", "differs", "apart", "single",
                                   "conforms", "deviates"}, f"only {found}")
 

@@ -4,8 +4,9 @@ systems that sent it.
 A row's lines are spelled with ` / ` between them. G1 is the frame of link 1 of docs/FORMATS.md with
 its line's network in the source address, G1(q) one whose last byte is q, `G1+>AT=HEX` one with
 other bytes from place AT on, G1+HEX one with more bytes; G2 is that of link 2. H1, H9 and X are as
-in rows.py. `T q` is G1(q) at link 1's input port on A at T, `T q B` on B. The last line is spelled
-by its numbers: `2/0/0` is sent, cut, alone; a fourth is how many lines are left out.
+in rows.py, and G3 is of a link 3, which the base tables don't have. `T q` is G1(q) at link 1's
+input port on A at T, `T q B` on B. The last line is spelled by its numbers: `2/0/0` is sent, cut,
+alone; a fourth is how many lines are left out.
 """
 from __future__ import annotations
 
@@ -13,10 +14,12 @@ import re
 from typing import NamedTuple
 
 import rows as plain
+from cascade_rows import THREE, TWO, TWO_TEXT, text_with
 from program import Answer
+from tables import with_values
 
 NETWORK = {"A": "20", "B": "40"}
-NAME = re.compile(r"G([12])(?:\(([0-9a-f]{2})\))?(?:\+>(\d+)=)?\+?([0-9a-f]*)")
+NAME = re.compile(r"G([123])(?:\(([0-9a-f]{2})\))?(?:\+>(\d+)=)?\+?([0-9a-f]*)")
 BARE = re.compile(r"(\d+) ([0-9a-f]{2})( B)?")
 ALL = "explained 0 open 0 uncertain 0 left-out {} unseen {} idle 0 sent {} cut {} alone {}"
 
@@ -48,9 +51,28 @@ def list_of(text: str) -> bytes:
     return "".join(lines).encode()
 
 
+# two switches, of which aft has a link 3 of its own from s2 to s3
+WIDE = {"switch": [TWO["switch"][0], TWO["switch"][1] | {"link": [
+    *TWO["switch"][1]["link"],
+    with_values(TWO["switch"][1]["link"][1], vl=3, to=["s3"]),
+]}]}  # fmt: skip
+SLOW = {"fwd neighbour 1 rate": 10, "mid neighbour 1 rate": 10, "fwd link 1 latency": 50,
+        "mid link 1 latency": 50, "aft link 1 latency": 50}  # fmt: skip
+SENDER_CONFIGS = {
+    "base": plain.CONFIGS["base"],
+    "two": TWO_TEXT,
+    "wide": text_with(WIDE, {}),
+    "broken": text_with(TWO, {"aft link 1": None, "aft port 1": None}),
+    "three": text_with(THREE, {}),
+    "near": text_with(THREE, {"mid link 1 skew": 990}),
+    "slow": text_with(THREE, SLOW),
+}
+
+
 class SenderRow(NamedTuple):
     """Options, what came, and what is answered: the lines, the last line's numbers, empty where it
-    doesn't come, and what stands on standard error."""
+    doesn't come, and what stands on standard error. The configuration is one of SENDER_CONFIGS; so
+    many streams of the switch aren't seen."""
 
     name: str
     options: str
@@ -58,6 +80,8 @@ class SenderRow(NamedTuple):
     lines: str
     counts: str
     err: str = ""
+    config: str = "base"
+    unseen: int = plain.STREAMS
 
     def words(self) -> tuple[str, ...]:
         """The words of the options."""
@@ -74,7 +98,7 @@ class SenderRow(NamedTuple):
                 verdict, status = f"deviates {len(lines)}", 5
             elif sent == "0":
                 verdict, status = "undecided", 3
-            last = ALL.format(more[0] if more else 0, plain.STREAMS, sent, cut, alone)
+            last = ALL.format(more[0] if more else 0, self.unseen, sent, cut, alone)
             lines.append(f"{verdict} {last}\n")
         err = f"{self.err}\n".encode() if self.err else b""
         return Answer(status, "".join(lines).encode(), err)
@@ -82,7 +106,8 @@ class SenderRow(NamedTuple):
 
 BEGUN, STEADY = "--from 5 --until 3000000", "--drift 1000"
 HEADER, FRAGMENT = "G1+>20=20", "G1+>20=20000111adea"
-SENDER_ROWS = (
+FWD, AFT = "--switch fwd", "--switch aft"
+ONE_SWITCH_ROWS = (
     SenderRow("both at one time", "", "0 00 / 0 00 B", "", "2/0/0"),
     SenderRow("the copy may be behind the end", "--until 988759", "0 00", "", "1/1/0"),
     SenderRow("the copy isn't behind the end", "--until 988760", "0 00", "single 1 A 1", "0/0/0"),
@@ -147,4 +172,47 @@ SENDER_ROWS = (
               "0/0/0"),
     SenderRow("the greatest distance", "--apart 100000000", "0 00 / 100000000 00 B", "", "2/0/0"),
     SenderRow("all of one link", "--leave-out 2", "F 0 A 2 G2 / 0 00", "", "1/1/0/1"),
+    SenderRow("of a link that stands nowhere", "", "F 0 A 1 G3", "unlawful 1 A 1 unknown-link",
+              "0/0/0"),
 )
+
+# ---- a switch of several -------------------------------------------------------------------------
+
+SWITCH_ROWS = (
+    SenderRow("what came by a cable has no sender here", AFT,
+              "F 0 A 2 G2 / F 0 B 2 G2 / F 0 A 20 H1", "", "2/0/0", config="two", unseen=6),
+    SenderRow("nor has what is of no link", FWD, "F 0 A 24 H9 / F 0 A 24 G2 / 0 00", "", "1/1/0",
+              config="two"),
+    SenderRow("as far apart as a way over two leaves", FWD, "0 00 / 976520 00 B", "", "2/0/0",
+              config="two"),
+    SenderRow("further apart than that", FWD, "0 00 / 976521 00 B", "apart 2 B 1 1", "1/0/0",
+              config="two"),
+    SenderRow("by a way over two the copy may be behind the end", f"{FWD} --until 976519", "0 00",
+              "", "1/1/0", config="two"),
+    SenderRow("by a way over two it isn't behind the end", f"{FWD} --until 976520", "0 00",
+              "single 1 A 1", "0/0/0", config="two"),
+    SenderRow("of a link that comes by a cable", FWD, "F 0 A 1 G2", "unlawful 1 A 1 not-its-link",
+              "0/0/0", config="two"),
+    SenderRow("of a link of another switch alone", FWD, "F 0 A 1 G3 / F 0 A 1 H9",
+              "unlawful 1 A 1 not-its-link / unlawful 2 A 1 unknown-link", "0/0/0", config="wide"),
+    SenderRow("damaged, of a link of another switch", FWD, "B 0 A 1 G3", "unlawful 1 A 1 bad-fcs",
+              "0/0/0", config="wide"),
+    SenderRow("a way over three", FWD, "0 00 / 984280 00 B / 1000000 01 / 1984281 01 B",
+              "apart 4 B 1 1", "3/0/0", config="three", unseen=2),
+    SenderRow("a system on the way is nearer", FWD,
+              "0 00 / 979520 00 B / 1000000 01 / 1979521 01 B", "apart 4 B 1 1", "3/0/0",
+              config="near", unseen=2),
+    SenderRow("slow cables", FWD, "0 00 / 919120 00 B / 1000000 01 / 1919121 01 B",
+              "apart 4 B 1 1", "3/0/0", config="slow", unseen=2),
+    SenderRow("where no system gets the link", FWD, "0 00 / 1 00 B", "apart 2 B 1 1", "1/0/0",
+              config="broken"),
+    SenderRow("a distance that is given", f"{FWD} --apart 5", "0 00 / 6 00 B", "apart 2 B 1 1",
+              "1/0/0", config="two"),
+    SenderRow("no system of the switch sends", AFT, "F 0 A 20 G1 / F 0 A 3 G1",
+              "unlawful 2 A 3 not-its-link", "0/0/0", config="three", unseen=2),
+    SenderRow("no such switch", "--switch mid", "0 00", "", "", "words NoSuchSwitch", "two"),
+    SenderRow("a switch of one", FWD, "0 00", "", "", "words NoSuchSwitch"),
+    SenderRow("a cascade without a switch", "", "0 00", "", "", "words NoSuchSwitch", "two"),
+)
+
+SENDER_ROWS = (*ONE_SWITCH_ROWS, *SWITCH_ROWS)

@@ -72,6 +72,7 @@ class Senders:
         self.systems = {system["name"]: system for system in tables["system"]}
         self.ports = {system["port"] for system in tables["system"]}
         self.links = {link["vl"]: link for link in tables["link"]}
+        self.known = {link["vl"] for switch in switches for link in switch["link"]}
         self.lines: list[tuple[Order, str]] = []
         frames = self.by_source(came)
         own = [link for link in tables["link"] if link["from"] in self.systems]
@@ -119,7 +120,7 @@ class Senders:
 
     def of_none(self, vl: int, frame: Frame) -> str:
         """Why a frame is unlawful that is of no source."""
-        other = "not-its-link" if vl in self.links else "unknown-link"
+        other = "not-its-link" if vl in self.known else "unknown-link"
         return damage(frame.content) or other
 
     def text(self, before: int | None = None) -> bytes:

@@ -160,8 +160,11 @@ done
 text_case 'conform --senders with LEFT' 2 err '[LEFT]' conform --senders "$rules" "${lists[@]}"
 text_case 'conform --senders --left' 2 err --left \
     conform --senders --left 0=A:3 "$rules" "$work/came"
-text_case 'conform --senders --switch' 2 err --switch \
-    conform --senders --switch fwd "$two" "$work/came"
+case_of 'conform --senders --switch' 3 \
+    $'undecided explained 0 open 0 uncertain 0 left-out 0 unseen 6 idle 0 sent 0 cut 0 alone 0\n' \
+    '' conform --senders --switch aft --apart 5 "$two" /dev/null
+case_of 'conform --senders of another switch' 2 '' $'words NoSuchSwitch\n' \
+    conform --senders --switch none "$two" "$work/came"
 text_case 'conform --apart alone' 2 err --senders conform --apart 5 "$rules" "$work/came"
 text_case 'conform --apart beside LEFT' 2 err --apart conform --apart 5 "$rules" "${lists[@]}"
 case_of 'conform --senders of several switches' 2 '' $'words NoSuchSwitch\n' \

@@ -7,7 +7,7 @@ use Rattle.std.specs.Option.{option_map_or}
 use Rattle.afdx_config.specs.Rows.{LinkRow, Rows}
 use Rattle.afdx_config.specs.Admission.{byte_ns}
 use Rattle.afdx_config.specs.Switches.{NamedRows}
-use Rattle.afdx_admit.specs.declared.apart.Way.{Way}
+use Rattle.afdx_admit.specs.declared.apart.RowWay.{RowWay}
 use Rattle.afdx_admit.specs.Cascade.{RowAt, row_at, row_of, row_before, is_sent_here, way_latency}
 
 -- A receiver takes copies for copies of one that come up to `skew` apart. One may take the whole
@@ -25,11 +25,11 @@ byte_to t place = option_map_or byte_ns (slice_get t.systems place) 0
 
 -- ---- of a row
 
-abbrev pub way_of : (latency cables : ℕ) → Way
+abbrev pub way_of : (latency cables : ℕ) → RowWay
 way_of latency cables = record { latency = latency; cables = cables }
 
 -- what it leaves copies on their way to the system at a place: the shortest are the soonest there
-abbrev pub left_to : Rows → LinkRow → Way → (place : ℕ) → ℕ
+abbrev pub left_to : Rows → LinkRow → RowWay → (place : ℕ) → ℕ
 left_to t l way place =
     left_of (1000 * l.skew_us) (1000 * way.latency)
     (bytes_to_last l.lmin * (way.cables + byte_to t place))
@@ -48,7 +48,7 @@ least_to left own [] = None
 least_to left own (place ∷ places) = lesser (if_own left own place) (least_to left own places)
 
 -- and over all systems of its switch that get the link
-abbrev pub row_apart : Rows → LinkRow → Way → Option ℕ
+abbrev pub row_apart : Rows → LinkRow → RowWay → Option ℕ
 row_apart t l way = least_to (left_to t l way) t.own l.to
 
 -- ---- of a link, where there is one switch on a side
@@ -76,7 +76,7 @@ unfoldable pub way_cables : List NamedRows → RowAt → Option ℕ
 way_cables switches r = cables_within (length switches) switches r
 
 -- none where the way is broken
-unfoldable pub way_to : List NamedRows → RowAt → Option Way
+unfoldable pub way_to : List NamedRows → RowAt → Option RowWay
 way_to switches r =
     option_and_then (λ latency. option_map (way_of latency) (way_cables switches r))
     (way_latency switches r)

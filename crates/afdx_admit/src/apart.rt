@@ -1,6 +1,6 @@
 //! How far apart the copies of a frame may be sent on the two networks: what the tables leave.
 
-ghost use Rattle.std.specs.Prelude.{◌≡◌, ◌<◌, ◌≤◌, ◌*◌, length, Some, IfSome};
+ghost use Rattle.std.specs.Prelude.{◌≡◌, ◌<◌, ◌≤◌, ◌+◌, ◌*◌, length, Some, IfSome};
 ghost use Rattle.std.specs.List.{AllByRecursion};
 ghost use Rattle.afdx_frame.specs.Regulation.{greatest_delay, slowest_byte};
 ghost use Rattle.afdx_config.specs.Rows.{Rows, link_row, system_places};
@@ -18,12 +18,12 @@ use afdx_frame::VlId;
 const BEFORE_A_FRAME: u64 = 8;
 
 /// The way of a frame to a row, itself among its rows.
-#[derive(Clone, Copy)]
-pub(crate) struct Way {
+#[derive(Clone, Copy, Debug)]
+pub struct RowWay {
     /// The latencies of its rows, summed, in us.
-    latency: u64,
+    pub latency: u64,
     /// The times of a byte on its cables, summed, in ns.
-    cables: u64,
+    pub cables: u64,
 }
 
 /// The time of a byte on the line to what stands at a place, in ns.
@@ -36,7 +36,7 @@ fn byte_to(tables: &Tables, place: SystemId) -> u64
 }
 
 /// What a row leaves the copies to the system at a place, in ns.
-fn left_to(tables: &Tables, link: &Link, way: Way, place: SystemId) -> u64
+fn left_to(tables: &Tables, link: &Link, way: RowWay, place: SystemId) -> u64
     requires link { IsLinkUpTo jitter_from_any (length tables.now.systems) (link_row link.now) }
     requires place { place.0 < length tables.now.systems }
     requires latency { way.latency ≤ most_switches * greatest_delay }
@@ -61,7 +61,7 @@ fn lesser(least: Option<u64>, other: Option<u64>) -> Option<u64>
 }
 
 /// What a row leaves the copies to what stands at a place, if that is a system.
-fn left_if_own(tables: &Tables, link: &Link, way: Way, place: SystemId) -> Option<u64>
+fn left_if_own(tables: &Tables, link: &Link, way: RowWay, place: SystemId) -> Option<u64>
     requires link { IsLinkUpTo jitter_from_any (length tables.now.systems) (link_row link.now) }
     requires place { place.0 < length tables.now.systems }
     requires latency { way.latency ≤ most_switches * greatest_delay }
@@ -78,7 +78,7 @@ fn left_if_own(tables: &Tables, link: &Link, way: Way, place: SystemId) -> Optio
 
 /// The least of what a row leaves the copies to some systems.
 #[tactic(auto, unfolding(crate::specs::Apart::least_to))]
-fn least_to(tables: &Tables, link: &Link, way: Way, places: &[SystemId]) -> Option<u64>
+fn least_to(tables: &Tables, link: &Link, way: RowWay, places: &[SystemId]) -> Option<u64>
     requires link { IsLinkUpTo jitter_from_any (length tables.now.systems) (link_row link.now) }
     requires within { AllByRecursion (λ i. i < length tables.now.systems)
         (system_places places.now) }
@@ -97,7 +97,7 @@ fn least_to(tables: &Tables, link: &Link, way: Way, places: &[SystemId]) -> Opti
 }
 
 /// The least of what a row leaves the copies to the systems that it goes to.
-fn row_apart(tables: &Tables, link: &Link, way: Way) -> Option<u64>
+fn row_apart(tables: &Tables, link: &Link, way: RowWay) -> Option<u64>
     requires link { IsLinkUpTo jitter_from_any (length tables.now.systems) (link_row link.now) }
     requires latency { way.latency ≤ most_switches * greatest_delay }
     requires cables { way.cables ≤ most_switches * slowest_byte }
@@ -113,7 +113,7 @@ pub fn link_apart(tables: &Tables, link: &Link) -> Option<u64>
     requires { IsLinkUpTo jitter_from_any (length tables.now.systems) (link_row link.now) }
     ensures { result ≡ spec.link_apart tables.now (link_row link.now) }
 {
-    let way = Way {
+    let way = RowWay {
         latency: link.latency_us,
         cables: 0,
     };
@@ -137,7 +137,7 @@ fn cables_within(switches: &Switches, switch: SwitchId, link: &Link, count: usiz
     requires few { count ≤ most_switches }
     ensures sum { result ≡ spec.cables_within count switches.now
         (row_at switch.0 (link_row link.now)) }
-    ensures small { IfSome result (λ sum. sum ≤ count * slowest_byte) }
+    ensures small { IfSome result (λ sum. sum + slowest_byte ≤ count * slowest_byte) }
 {
     if count == 0 {
         return None;
@@ -155,22 +155,25 @@ fn cables_within(switches: &Switches, switch: SwitchId, link: &Link, count: usiz
 fn way_cables(switches: &Switches, switch: SwitchId, link: &Link) -> Option<u64>
     requires { IsRowAt switches.now (row_at switch.0 (link_row link.now)) }
     ensures sum { result ≡ spec.way_cables switches.now (row_at switch.0 (link_row link.now)) }
-    ensures small { IfSome result (λ sum. sum ≤ most_switches * slowest_byte) }
+    ensures small { IfSome result (λ sum.
+        sum + slowest_byte ≤ most_switches * slowest_byte) }
 {
     cables_within(switches, switch, link, switches.count())
 }
 
-/// The way to this row of a switch, if it is whole.
+/// The way to this row of a switch; None where it is broken: where a neighbour on it doesn't send
+/// the link on.
 #[tactic(auto, unfolding(crate::specs::Apart::way_to))]
-fn way_to(switches: &Switches, switch: SwitchId, link: &Link) -> Option<Way>
+pub fn way_to(switches: &Switches, switch: SwitchId, link: &Link) -> Option<RowWay>
     requires { IsRowAt switches.now (row_at switch.0 (link_row link.now)) }
     ensures way { result ≡ spec.way_to switches.now (row_at switch.0 (link_row link.now)) }
     ensures latency { IfSome result (λ way. way.latency ≤ most_switches * greatest_delay) }
-    ensures cables { IfSome result (λ way. way.cables ≤ most_switches * slowest_byte) }
+    ensures cables { IfSome result (λ way.
+        way.cables + slowest_byte ≤ most_switches * slowest_byte) }
 {
     let latency = latency_of(switches, switch, link)?;
     let cables = way_cables(switches, switch, link)?;
-    Some(Way { latency, cables })
+    Some(RowWay { latency, cables })
 }
 
 /// How far apart the copies of a frame of a link may be sent, by the systems that get it from this

@@ -13,7 +13,7 @@ use afdx_config::{Link, SwitchId, Switches, System, SystemId, Tables};
 use afdx_frame::VlId;
 
 /// The row of this link at a switch.
-pub(crate) fn row_of(tables: &Tables, vl: VlId) -> Option<&Link>
+pub fn row_of(tables: &Tables, vl: VlId) -> Option<&Link>
     ensures row { option_map (λ l. link_row l.now) result ≡ spec.row_of tables.now vl.0 }
     ensures lawful { IfSome result (λ l.
         IsLinkUpTo jitter_from_any (length tables.now.systems) (link_row l.now)) }

@@ -73,15 +73,15 @@ name_in question = option_map (λ name. name.now) question.switch
 -- what is judged, by a configuration and a name
 module _ {E : Type 0} (error_bytes : E → Option (List ℕ)) (config : List ℕ)
     (name : Option (List ℕ)) (old new : Watched E) (ended : Judged) where
-  -- a run by the tables of the switch ended the command, of which this holds
-  pub record IsJudged (ran : Rows → Result RunCounts RunFault → Type 0) : Type 0 where
+  -- a run by the tables of the switch, of what is described, ended the command; of it this holds
+  pub record IsJudged (ran : Described → Rows → Result RunCounts RunFault → Type 0) : Type 0 where
     pub described : Described
     pub read : IsRead config described
     pub tables : Rows
     pub judged : tables_judged described name ≡ Some tables
     pub answer : Result RunCounts RunFault
     pub ends : EndsAs error_bytes old new ended answer
-    pub runs : ran tables answer
+    pub runs : ran described tables answer
 
   -- the configuration describes no such switch
   pub record HasNoSwitch : Type 0 where
@@ -96,11 +96,12 @@ module _ {E : Type 0} (error_bytes : E → Option (List ℕ)) (config : List ℕ
       × (IsUnread error_bytes old new config ended.status ⊎ HasNoSwitch)
 
   -- a run ended the command, or there are no tables, and this holds
-  abbrev pub IsAnsweredOr : (Rows → Result RunCounts RunFault → Type 0) → Type 0 → Type 0
+  abbrev pub IsAnsweredOr : (Described → Rows → Result RunCounts RunFault → Type 0) → Type 0 →
+      Type 0
   IsAnsweredOr ran untouched = IsJudged ran ⊎ (IsUnjudged × untouched)
 
 -- of what is asked of a switch
 abbrev pub IsJudgedOr : {E : Type 0} → (E → Option (List ℕ)) → Question → (old new : Watched E) →
-    Judged → (Rows → Result RunCounts RunFault → Type 0) → Type 0 → Type 0
+    Judged → (Described → Rows → Result RunCounts RunFault → Type 0) → Type 0 → Type 0
 IsJudgedOr error_bytes question =
     IsAnsweredOr error_bytes question.config.now (name_in question)

@@ -46,8 +46,9 @@ pub fn ended_with(status: u8) -> Judged
 
 /// The tables of the switch of this name, or those of the one switch where no name is given. None:
 /// no switch has the name, one is wanted, or none may be.
-pub fn tables_named(described: Described, switch: Option<&str>) -> Option<Tables>
-    ensures { result ≡ spec.tables_judged described (option_map (λ name. name.now) switch.entry) }
+pub fn tables_named<'a>(described: &'a Described, switch: Option<&str>) -> Option<&'a Tables>
+    ensures { option_map (λ t. t.now) result
+        ≡ spec.tables_judged described.now (option_map (λ name. name.now) switch.entry) }
 {
     match described {
         Described::One(tables) => match switch {
@@ -57,7 +58,7 @@ pub fn tables_named(described: Described, switch: Option<&str>) -> Option<Tables
         Described::Several(switches) => {
             let name = switch?;
             let place = switches.named(name)?;
-            Some(switches.into_tables(place))
+            Some(switches.tables(place))
         }
     }
 }
@@ -113,7 +114,8 @@ pub fn conform<P: Tapping + Drop, A: RunInput<P, Seen>, O: Sink, E: Write>(
     // The command ends as a run by the tables of the switch answered; or the configuration isn't
     // read, or has no such switch: then nothing is read and nothing is written.
     ensures judges { IsJudgedOr E.contents question.entry errors.old errors.new result
-        (λ t answer. IsRun (A.ended inputs.new) (A.failed inputs.new) (O.failed output.new) answer
+        (λ described t answer.
+        IsRun (A.ended inputs.new) (A.failed inputs.new) (O.failed output.new) answer
         × Answers (A.known inputs.old) (A.Takes TakesFrames options) inputs.new t (P.tapped options)
         question.entry.choices.now (O.written output.old) (O.written output.new) answer)
         ((inputs.new ≡ inputs.old) × (output.new ≡ output.old)) }
@@ -124,9 +126,9 @@ pub fn conform<P: Tapping + Drop, A: RunInput<P, Seen>, O: Sink, E: Write>(
         Ok(described) => described,
         Err(status) => return ended_with(status),
     };
-    let Some(tables) = tables_named(described, question.switch) else {
+    let Some(tables) = tables_named(&described, question.switch) else {
         return ended_with(refuse_switch(errors));
     };
-    let answer = run_conform(alloc, &tables, question.choices, options, inputs, output);
+    let answer = run_conform(alloc, tables, question.choices, options, inputs, output);
     end_judged(answer, errors)
 }

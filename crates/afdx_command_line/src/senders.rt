@@ -8,21 +8,25 @@ use crate::console::{
 use crate::running::{cause_in, open, output_room, refuse};
 use afdx_command_conform::{ByRole, Choices};
 use afdx_command_senders::{SenderChoices, SenderQuestion, judge_senders};
-use afdx_command_words::{Refused, came_options, copies_apart};
+use afdx_command_words::{Refused, came_options, copies_apart, switch_in};
 use afdx_input_runs::AsLists;
 use afdx_input_sources::RecordingOptions;
 use afdx_replay::{Output, Peeked, Watched};
 use clap::ArgMatches;
 
-/// The systems of a configuration are judged, as is asked.
+/// The systems at a switch of a configuration are judged, as is asked.
 fn question<'a>(
     rt: &HostRuntime,
-    matches: &ArgMatches<'_>,
+    matches: &ArgMatches<'a>,
     config: &'a [u8],
     choices: &'a Choices,
 ) -> Result<SenderQuestion<'a>, u8> {
     match SenderChoices::new(choices, copies_apart(matches)) {
-        Some(asked) => Ok(SenderQuestion { config, asked }),
+        Some(asked) => Ok(SenderQuestion {
+            config,
+            switch: switch_in(matches),
+            asked,
+        }),
         None => Err(refuse(rt, matches, Refused::BadNumber)),
     }
 }

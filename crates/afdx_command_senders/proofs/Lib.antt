@@ -1,3 +1,4 @@
 pub mod SettingLemmas
+pub mod WayLemmas
 pub mod SenderRunLemmas
 pub mod ConcludedLemmas

@@ -16,7 +16,8 @@ use Rattle.afdx_senders.specs.Setups.{Setup, ending, nobody, setup_with}
 use Rattle.afdx_senders.specs.Sites.{Recorded}
 use Rattle.afdx_senders.specs.Telling.{AreToldBefore, AreToldEarly}
 use Rattle.afdx_command_senders.specs.Asked.{Asked}
-use Rattle.afdx_command_senders.specs.LinkWays.{ways_of}
+use Rattle.afdx_command_senders.specs.LinkWays.{ways_by}
+use Rattle.afdx_command_senders.specs.Outlook.{Outlook}
 use Rattle.afdx_command_senders.specs.Setting.{AreRecorded, IsSetting, IsSettingBelow, setting_of}
 
 -- ---- of no frames
@@ -41,33 +42,35 @@ there : (t : Rows) {X : Type 0} (f : LinkRow → X) (none : X) (place : ℕ) (l 
     → slice_get t.links place ≡ Some l → option_map_or f (slice_get t.links place) none ≡ f l
 there t f none place l e = ap (λ (o : Option LinkRow). option_map_or f o none) e
 
-pub is-setting : (t : Rows) (a : Asked) → IsSetting t a (setting_of t a)
-is-setting t a = record {
+pub is-setting : (o : Outlook) (a : Asked) → IsSetting o a (setting_of o a)
+is-setting o a = record {
   tables = refl;
+  among = refl;
   recorded = λ side port lt. refl;
-  ways = λ place l e. there t (ways_of t) [] place l e;
+  ways = λ place l e. there o.tables (ways_by o.among o.tables) [] place l e;
   given = refl;
   leeway = refl;
-  judged = λ place l e. there t (λ r. nat_lt r.from t.own) false place l e;
+  judged = λ place l e. there o.tables (λ r. nat_lt r.from o.tables.own) false place l e;
 }
 
 -- ---- one after the other
 
-pub none-below : (t : Rows) (a : Asked) (recorded : Recorded) → AreRecorded a.run.taps recorded
-    → IsSettingBelow 0 t a (setup_with t recorded (setting_of t a).asked nobody)
-none-below t a recorded is = record {
+pub none-below : (o : Outlook) (a : Asked) (recorded : Recorded) → AreRecorded a.run.taps recorded
+    → IsSettingBelow 0 o a (setup_with o.tables o.among recorded (setting_of o a).asked nobody)
+none-below o a recorded is = record {
   tables = refl;
+  among = refl;
   recorded = is;
-  ways = λ place l e. there t (ways_of t) [] place l e;
+  ways = λ place l e. there o.tables (ways_by o.among o.tables) [] place l e;
   given = refl;
   leeway = refl;
-  judged = λ place l e. ap (λ (b : Bool). b && nat_lt l.from t.own) (sym (le-ltb place 0 (omega arith)));
+  judged = λ place l e. ap (λ (b : Bool). b && nat_lt l.from o.tables.own) (sym (le-ltb place 0 (omega arith)));
 }
 
-module _ (t : Rows) (a : Asked) (n : ℕ) (z : Setup) (h : IsSettingBelow n t a z) (l : LinkRow)
-    (at : slice_get t.links n ≡ Some l) where
-  same-row : (k : ℕ) (r : LinkRow) → slice_get t.links k ≡ Some r → k ≡ n → r ≡ l
-  same-row k r e same = same_Some r l (sym e ∙ ap (λ (i : ℕ). slice_get t.links i) same ∙ at)
+module _ (o : Outlook) (a : Asked) (n : ℕ) (z : Setup) (h : IsSettingBelow n o a z) (l : LinkRow)
+    (at : slice_get o.tables.links n ≡ Some l) where
+  same-row : (k : ℕ) (r : LinkRow) → slice_get o.tables.links k ≡ Some r → k ≡ n → r ≡ l
+  same-row k r e same = same_Some r l (sym e ∙ ap (λ (i : ℕ). slice_get o.tables.links i) same ∙ at)
 
   after : (m k : ℕ) → m ≤ k → (k ≡ m → ⊥) → (m + 1) ≤ k
   after m k le other = by (nat_lt m k) refl
@@ -77,16 +80,18 @@ module _ (t : Rows) (a : Asked) (n : ℕ) (z : Setup) (h : IsSettingBelow n t a 
       by false ge = absurd (other (let more = ltb-false m k ge in omega (arith, le, more)))
 
   -- which of those before the next place are judged
-  next-judged : (own : Bool) → nat_lt l.from t.own ≡ own → (k : ℕ) (r : LinkRow) → slice_get t.links k ≡ Some r
-      → (if nat_eq k n then own else z.is_judged k) ≡ (nat_lt k (n + 1) && nat_lt r.from t.own)
+  next-judged : (own : Bool) → nat_lt l.from o.tables.own ≡ own → (k : ℕ) (r : LinkRow)
+      → slice_get o.tables.links k ≡ Some r
+      → (if nat_eq k n then own else z.is_judged k) ≡ (nat_lt k (n + 1) && nat_lt r.from o.tables.own)
   next-judged own is k r e = by (nat_eq k n) refl
     where
-      by : (b : Bool) → nat_eq k n ≡ b → (if b then own else z.is_judged k) ≡ (nat_lt k (n + 1) && nat_lt r.from t.own)
+      by : (b : Bool) → nat_eq k n ≡ b
+          → (if b then own else z.is_judged k) ≡ (nat_lt k (n + 1) && nat_lt r.from o.tables.own)
       by true same =
           let k-is = eqb-true k n same in
-          sym is ∙ ap (λ (x : LinkRow). nat_lt x.from t.own) (sym (same-row k r e k-is))
-          ∙ ap (λ (b : Bool). b && nat_lt r.from t.own) (sym (lt-ltb k (n + 1) (omega (arith, k-is))))
-      by false other = h.judged k r e ∙ ap (λ (b : Bool). b && nat_lt r.from t.own) (below (nat_lt k n) refl)
+          sym is ∙ ap (λ (x : LinkRow). nat_lt x.from o.tables.own) (sym (same-row k r e k-is))
+          ∙ ap (λ (b : Bool). b && nat_lt r.from o.tables.own) (sym (lt-ltb k (n + 1) (omega (arith, k-is))))
+      by false other = h.judged k r e ∙ ap (λ (b : Bool). b && nat_lt r.from o.tables.own) (below (nat_lt k n) refl)
         where
           below : (b : Bool) → nat_lt k n ≡ b → nat_lt k n ≡ nat_lt k (n + 1)
           below true lt = lt ∙ sym (lt-ltb k (n + 1) (let before = ltb-true k n lt in omega (arith, before)))
@@ -98,9 +103,10 @@ module _ (t : Rows) (a : Asked) (n : ℕ) (z : Setup) (h : IsSettingBelow n t a 
   abbrev pub next-setup : Setup
   next-setup = record z { is_judged = λ k. if nat_eq k n then true else z.is_judged k }
 
-  pub is-next : nat_lt l.from t.own ≡ true → IsSettingBelow (n + 1) t a next-setup
+  pub is-next : nat_lt l.from o.tables.own ≡ true → IsSettingBelow (n + 1) o a next-setup
   is-next own = record {
     tables = h.tables;
+    among = h.among;
     recorded = h.recorded;
     ways = h.ways;
     given = h.given;
@@ -109,9 +115,10 @@ module _ (t : Rows) (a : Asked) (n : ℕ) (z : Setup) (h : IsSettingBelow n t a 
   }
 
   -- or it is none of the switch's
-  pub is-same : nat_lt l.from t.own ≡ false → IsSettingBelow (n + 1) t a z
+  pub is-same : nat_lt l.from o.tables.own ≡ false → IsSettingBelow (n + 1) o a z
   is-same own = record {
     tables = h.tables;
+    among = h.among;
     recorded = h.recorded;
     ways = h.ways;
     given = h.given;
@@ -119,27 +126,29 @@ module _ (t : Rows) (a : Asked) (n : ℕ) (z : Setup) (h : IsSettingBelow n t a 
     judged = λ k r e. kept k r e (nat_eq k n) refl;
   }
     where
-      kept : (k : ℕ) (r : LinkRow) → slice_get t.links k ≡ Some r → (b : Bool) → nat_eq k n ≡ b
-          → z.is_judged k ≡ (nat_lt k (n + 1) && nat_lt r.from t.own)
+      kept : (k : ℕ) (r : LinkRow) → slice_get o.tables.links k ≡ Some r → (b : Bool) → nat_eq k n ≡ b
+          → z.is_judged k ≡ (nat_lt k (n + 1) && nat_lt r.from o.tables.own)
       kept k r e true same =
           h.judged k r e
-          ∙ ap (λ (b : Bool). b && nat_lt r.from t.own) (le-ltb k n (let i = eqb-true k n same in omega (arith, i)))
-          ∙ sym own ∙ ap (λ (x : LinkRow). nat_lt x.from t.own) (sym (same-row k r e (eqb-true k n same)))
-          ∙ ap (λ (b : Bool). b && nat_lt r.from t.own)
+          ∙ ap (λ (b : Bool). b && nat_lt r.from o.tables.own)
+          (le-ltb k n (let i = eqb-true k n same in omega (arith, i)))
+          ∙ sym own ∙ ap (λ (x : LinkRow). nat_lt x.from o.tables.own) (sym (same-row k r e (eqb-true k n same)))
+          ∙ ap (λ (b : Bool). b && nat_lt r.from o.tables.own)
           (sym (lt-ltb k (n + 1) (let i = eqb-true k n same in omega (arith, i))))
       kept k r e false other =
           ap (λ (b : Bool). if b then false else z.is_judged k) (sym other) ∙ next-judged false own k r e
 
 -- once all are
-pub all-below : (t : Rows) (a : Asked) (n : ℕ) (z : Setup) → n ≡ length t.links → IsSettingBelow n t a z
-    → IsSetting t a z
-all-below t a n z all h = record {
+pub all-below : (o : Outlook) (a : Asked) (n : ℕ) (z : Setup) → n ≡ length o.tables.links → IsSettingBelow n o a z
+    → IsSetting o a z
+all-below o a n z all h = record {
   tables = h.tables;
+  among = h.among;
   recorded = h.recorded;
   ways = h.ways;
   given = h.given;
   leeway = h.leeway;
   judged = λ k r e. h.judged k r e
-      ∙ ap (λ (b : Bool). b && nat_lt r.from t.own)
-      (lt-ltb k n (let lt = slice_get_within t.links k r e in omega (arith, all, lt)));
+      ∙ ap (λ (b : Bool). b && nat_lt r.from o.tables.own)
+      (lt-ltb k n (let lt = slice_get_within o.tables.links k r e in omega (arith, all, lt)));
 }

@@ -1,3 +1,4 @@
+pub mod Outlook
 pub mod LinkWays
 pub mod Given
 pub mod Asked

@@ -1,11 +1,12 @@
 //! The command `conform --senders`, of what came alone.
 
-ghost use Rattle.std.specs.Prelude.{◌≡◌, ◌||◌, ◌⊎◌, None, false, true};
-ghost use Rattle.afdx_command_conform.specs.Commands.{IsAnsweredOr, IsRun};
-ghost use Rattle.afdx_command_senders.specs.SenderAnswers.{SendersAnswer};
+ghost use Rattle.std.specs.Prelude.{◌≡◌, ◌||◌, ◌⊎◌, false, true};
+ghost use Rattle.afdx_command_conform.specs.Commands.{IsRun};
+ghost use Rattle.afdx_command_senders.specs.SenderAnswers.{IsAskedOr, SendersAnswer};
 ghost use Rattle.afdx_input_runs.specs.Arrivals.{TakesFrames};
 
 use crate::asked::SenderChoices;
+use crate::outlook::SenderOutlook;
 use crate::run::run_senders;
 use afdx_command_conform::{Judged, end_judged, ended_with, refuse_switch, tables_named};
 use afdx_command_tables::read_described;
@@ -15,20 +16,23 @@ use afdx_text::Sink;
 use std::alloc::Global;
 use std::io::Write;
 
-/// What is judged: the systems at the one switch of a configuration; and what is asked for.
+/// What is judged: the systems at the switch of a configuration, by its name where it describes
+/// several; and what is asked for.
 #[derive(Clone, Copy, Debug)]
 pub struct SenderQuestion<'a> {
     pub config: &'a [u8],
+    pub switch: Option<&'a str>,
     pub asked: SenderChoices<'a>,
 }
 
-/// Judges whether the systems of a configuration sent as its tables say, by the frames that came to
-/// the switch: of a list or of one recording. The lines go to `output`, the one line of a fault to
-/// `errors`. Where the last line was written it also gives what was read.
+/// Judges whether the systems at a switch of a configuration sent as its tables say, by the frames
+/// that came to it: of a list or of one recording. What links there are, and how systems get them,
+/// is said by all switches that the configuration describes. The lines go to `output`, the one line
+/// of a fault to `errors`. Where the last line was written it also gives what was read.
 ///
 /// Nothing of the inputs is read before the tables are taken. The exit status is 0 conforms, 5
-/// deviates, 3 undecided or a fault of a list or a recording, 1 a fault of the configuration, 2 if
-/// it describes several switches, or 4 a device or memory.
+/// deviates, 3 undecided or a fault of a list or a recording, 1 a fault of the configuration, 2 no
+/// such switch, or 4 a device or memory.
 pub fn judge_senders<P: Tapping + Drop, A: RunInput<P, Seen>, O: Sink, E: Write>(
     alloc: Global,
     what: SenderQuestion<'_>,
@@ -45,12 +49,12 @@ pub fn judge_senders<P: Tapping + Drop, A: RunInput<P, Seen>, O: Sink, E: Write>
     ensures device { (A.failed inputs.new || O.failed output.new) ≡ true → result.status ≡ 4 }
     ensures asked { A.IsAskedFew true inputs.old inputs.new }
 
-    // The command ends as a run by the tables of the switch answered; or the configuration isn't
-    // read, or describes several: then nothing is read and nothing is written.
-    ensures judges { IsAnsweredOr E.contents what.entry.config.now None errors.old errors.new
-        result (λ t answer.
+    // The command ends as a run at the switch answered, by all that is described; or the
+    // configuration isn't read, or has no such switch: then nothing is read and nothing is written.
+    ensures judges { IsAskedOr E.contents what.entry errors.old errors.new result
+        (λ outlook answer.
         IsRun (A.ended inputs.new) (A.failed inputs.new) (O.failed output.new) answer
-        × SendersAnswer (A.known inputs.old) (A.Takes TakesFrames options) inputs.new t
+        × SendersAnswer (A.known inputs.old) (A.Takes TakesFrames options) inputs.new outlook
         (P.tapped options) what.entry.asked (O.written output.old) (O.written output.new) answer)
         ((inputs.new ≡ inputs.old) × (output.new ≡ output.old)) }
 {
@@ -60,9 +64,10 @@ pub fn judge_senders<P: Tapping + Drop, A: RunInput<P, Seen>, O: Sink, E: Write>
         Ok(described) => described,
         Err(status) => return ended_with(status),
     };
-    let Some(tables) = tables_named(described, None) else {
+    let Some(tables) = tables_named(&described, what.switch) else {
         return ended_with(refuse_switch(errors));
     };
-    let answer = run_senders(alloc, &tables, what.asked, options, inputs, output);
+    let outlook = SenderOutlook::at(&described, tables);
+    let answer = run_senders(alloc, outlook, what.asked, options, inputs, output);
     end_judged(answer, errors)
 }

@@ -19,6 +19,7 @@ ghost use Rattle.afdx_text.specs.Sinks.{SinkKept};
 ghost use Rattle.afdx_command_conform.specs.Choices.{latest_of};
 ghost use Rattle.afdx_command_conform.specs.Telling.{findings_in, lines_text, most_counted};
 ghost use Rattle.afdx_command_senders.specs.Asked.{Asked, asked_of, came_in, left_out_of};
+ghost use Rattle.afdx_command_senders.specs.Outlook.{outlook_of};
 ghost use Rattle.afdx_command_senders.specs.SenderLines as lines;
 ghost use Rattle.afdx_command_senders.specs.SenderLines.{end_by};
 ghost use Rattle.afdx_command_senders.specs.SenderRun.{HasBegunUpTo, HasToldUpTo, MayTellUpTo, TellsItems};
@@ -28,6 +29,7 @@ ghost use Rattle.afdx_command_senders.specs.Setting.{IsSetting};
 
 use crate::asked::SenderChoices;
 use crate::following::senders_of;
+use crate::outlook::SenderOutlook;
 use crate::recorded::recorded_ports;
 use crate::texts::lines_of;
 use afdx_command_conform::{
@@ -71,18 +73,18 @@ impl<'a> SendersRun<'a> {
     /// It has told nothing yet. Fails only out of memory.
     pub(crate) fn new(
         alloc: Global,
-        tables: &'a Tables,
+        outlook: SenderOutlook<'a>,
         asked: SenderChoices<'a>,
         taps: &Taps,
     ) -> Result<SendersRun<'a>, AllocError>
         ensures { let a = asked_of (taps_in taps.now) asked.entry in IfOk result (λ run.
-            (z : Setup) × IsSetting tables.entry.now a z
+            (z : Setup) × IsSetting (outlook_of outlook.entry) a z
             × ((output : Option (List ℕ)) → TellsItems (z, a) run output output [])) }
     {
-        let senders = senders_of(alloc, tables, &asked, recorded_ports(taps))?;
+        let senders = senders_of(alloc, outlook, &asked, recorded_ports(taps))?;
         Ok(SendersRun {
             alloc,
-            tables,
+            tables: outlook.tables,
             asked,
             senders,
             latest: 0,

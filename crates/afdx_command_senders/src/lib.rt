@@ -8,6 +8,7 @@ mod asked;
 mod command;
 mod following;
 mod judging;
+mod outlook;
 mod recorded;
 mod run;
 mod texts;

@@ -1,22 +1,23 @@
 //! A run over what systems sent, whatever gives the frames.
 
 ghost use Rattle.std.specs.Prelude.{◌≡◌, OnOk, false, true};
+ghost use Rattle.afdx_command_senders.specs.Outlook.{outlook_of};
 ghost use Rattle.afdx_command_senders.specs.SenderAnswers.{SendersAnswer};
 ghost use Rattle.afdx_input_lines.specs.Calls.{is_failed_read, is_failed_write};
 ghost use Rattle.afdx_input_runs.specs.Arrivals.{TakesFrames};
 
 use crate::asked::SenderChoices;
 use crate::judging::SendersRun;
+use crate::outlook::SenderOutlook;
 use afdx_command_conform::{RunCounts, RunTerms, run_judged};
-use afdx_config::Tables;
 use afdx_input_lines::RunFault;
 use afdx_input_runs::{RunInput, Seen, Tapping};
 use afdx_input_sources::FrameLines;
 use afdx_text::Sink;
 use std::alloc::Global;
 
-/// Judges whether the systems of a switch of these tables sent as they say, by the frames that came
-/// to it; gives the answer, with what it counted. Frames that left are passed over. What came in at
+/// Judges whether the systems of a switch sent as its tables say, by the frames that came to it;
+/// gives the answer, with what it counted. Frames that left are passed over. What came in at
 /// a port of which nothing is said came in at the port of the sender that it names.
 ///
 /// Frames are taken by time. Before a frame is taken all findings of moments before its time are
@@ -27,7 +28,7 @@ use std::alloc::Global;
 /// exactly where the device of an input, or the output's, failed; none is tried again.
 pub(crate) fn run_senders<P: Tapping + Drop, A: RunInput<P, Seen>, O: Sink>(
     alloc: Global,
-    tables: &Tables,
+    outlook: SenderOutlook<'_>,
     asked: SenderChoices<'_>,
     options: P,
     inputs: &mut A,
@@ -42,16 +43,16 @@ pub(crate) fn run_senders<P: Tapping + Drop, A: RunInput<P, Seen>, O: Sink>(
 
     // Where the bytes are known: what is answered and written for the frames that it takes.
     ensures answer { SendersAnswer (A.known inputs.old) (A.Takes TakesFrames options) inputs.new
-        tables.now (P.tapped options) asked.entry (O.written output.old) (O.written output.new)
-        result }
+        (outlook_of outlook.entry) (P.tapped options) asked.entry (O.written output.old)
+        (O.written output.new) result }
 {
     // (a law of the inputs: where memory is wanting at once nothing is taken)
     A::starts();
     A::takes_none::<FrameLines>();
     let taps = options.taps();
-    let mut judging = SendersRun::new(alloc, tables, asked, &taps)?;
+    let mut judging = SendersRun::new(alloc, outlook, asked, &taps)?;
     let terms = RunTerms {
-        tables,
+        tables: outlook.tables,
         is_lossy: asked.choices.is_lossy,
     };
     run_judged(alloc, terms, options, inputs, &mut judging, output)

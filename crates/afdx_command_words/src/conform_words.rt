@@ -70,9 +70,10 @@ CONFIG may describe several switches a side. --switch names the one that is judg
 CAME then has all that came to it, from its systems and by its cables, and each
 --interface says a port.
 
-With --senders the systems are judged as senders, and no switch. CAME alone is
-given: a list, or with one of the options above a recording of what they sent. A
-line is printed for each thing that a system did wrong; n is a line of CAME:
+With --senders the systems are judged as senders, and no switch; with --switch those
+of that switch. CAME alone is given: a list, or with one of the options above a
+recording of what they sent. What came by a cable has no sender there. A line is
+printed for each thing that a system did wrong; n is a line of CAME:
 
   unlawful n side port WORD  frame n isn't lawful by itself; WORD says why
   number n side port Q       its sequence number isn't Q, which stood next
@@ -144,8 +145,8 @@ By how many ns later the copy of a frame may be sent, at most
 100,000,000; else what the tables leave";
 
 const SWITCH_HELP: &str = "\
-The name of the switch that is judged, where CONFIG describes several
-a side";
+The name of the switch that is judged, or whose systems are, where
+CONFIG describes several a side";
 
 /// The word for frames that name no link.
 const OTHER: &str = "other";
@@ -179,8 +180,7 @@ fn leave_out_option<'a>(alloc: Global) -> Arg<'a> {
 fn senders_option<'a>(alloc: Global) -> Result<Arg<'a>, AllocError> {
     flag(alloc, "senders", SENDERS_HELP)
         .conflicts_with("LEFT")?
-        .conflicts_with("left")?
-        .conflicts_with("switch")
+        .conflicts_with("left")
 }
 
 /// The option that says how far apart copies may be sent.
@@ -188,8 +188,7 @@ fn copies_apart_option<'a>(alloc: Global) -> Result<Arg<'a>, AllocError> {
     time_option(alloc, "apart", APART_HELP)
         .requires_arg("senders")?
         .conflicts_with("LEFT")?
-        .conflicts_with("left")?
-        .conflicts_with("switch")
+        .conflicts_with("left")
 }
 
 /// The option by which a switch of several is judged.

@@ -130,7 +130,8 @@ conforms
 conforms explained n open n uncertain n left-out n unseen n idle n
 conforms explained n open n uncertain n left-out n unseen n idle n sent n cut n alone n",
         "\
-conforms: each frame that left is explained, and each that had to leave did.
+conforms: each frame that left is explained, and each that had to leave did; or with --senders the
+systems sent as the tables say.
 explained: frames that left rightly; open: arrivals whose frames may come behind the end;
 uncertain: where dropping and passing would both be right; left-out: frames that weren't looked at,
 by --leave-out, or since what their link's sender sends wasn't recorded; unseen: links at output
@@ -150,11 +151,10 @@ deviates
 deviates n explained n open n uncertain n left-out n unseen n idle n
 deviates n explained n open n uncertain n left-out n unseen n idle n sent n cut n alone n",
         "\
-deviates D: there are D lines above of what the switch did wrong. Only the first of a link at an
-output port is sure to name the cause.
+deviates D: there are D lines above of what the switch did wrong, or with --senders its systems.
+Only the first of a link at an output port, or at its sender's port, is sure to name the cause.
 See first that the recordings are right: GUIDE has a table of what a recorder makes of a right
-switch. explained, open, uncertain, left-out, unseen and idle are as with
-conforms.",
+switch, and one of what it makes of a right sender. All that is counted is as with conforms.",
     ),
     (
         "\
@@ -166,6 +166,8 @@ undecided: nothing wrong was found, but no frame was explained either, or a line
 above; or --exercised was given, and of a link at an output port no frame was explained: idle.
 If explained is 0, LEFT may be empty, or all its frames are left out, or its times are others than
 those of CAME: both count from one moment. If unseen is great, --interface or --left names other
-ports than those of the links; --summary says what was left out. The status is 3.",
+ports than those of the links; --summary says what was left out. The status is 3.
+Where senders are judged: no frame came at the port of the system that sends its link. CAME may be
+empty, or say other ports; or its frames are left out, or stand before --from or behind --until.",
     ),
 ];

@@ -16,7 +16,7 @@ use Rattle.afdx_senders.specs.Lines.{AddsLines, Line, MayComeThere, MayComeTo, a
 use Rattle.afdx_senders.specs.Order.{AreInType, is_moment_before}
 use Rattle.afdx_senders.specs.Settling.{Settled, Step, TakesOf, after_steps, lines_told}
 use Rattle.afdx_senders.specs.Setups.{Setup, whose}
-use Rattle.afdx_senders.specs.Sites.{came_at, recorded_in}
+use Rattle.afdx_senders.specs.Sites.{among_of, came_at, recorded_in}
 use Rattle.afdx_senders.specs.Standing.{SendersStand}
 use Rattle.afdx_senders.specs.Telling.{AreTold, known_lines}
 use Rattle.afdx_senders.specs.declared.followed.FollowedSources.{FollowedSources}
@@ -52,6 +52,7 @@ of_same : (z : Setup) (old new : Senders) → AreOf z old → new.sites ≡ old.
     length new.kept.slots.items ≡ length old.kept.slots.items → AreOf z new
 of_same z old new is sites room = record {
   tables = ap (λ (s : SenderSites). s.tables.now) sites ∙ is.tables;
+  among = ap among_of sites ∙ is.among;
   recorded = ap (λ (s : SenderSites). recorded_in s.recorded) sites ∙ is.recorded;
   room = room ∙ is.room;
 }

@@ -25,8 +25,8 @@ use Rattle.afdx_senders.specs.AllLines.{all_lines, all_singles, found_when, line
 use Rattle.afdx_senders.specs.Lines.{FoundBy, Line, OfSource, line_at, lines_at}
 use Rattle.afdx_senders.specs.SenderLaws.{AreNumbered, AreTwo}
 use Rattle.afdx_senders.specs.Setups.{Setup, came_from, is_of, own_frames, source_at, whose}
-use Rattle.afdx_senders.specs.Sites.{is_sent_at, is_site, named_as, sent_as, sent_by, sent_in, source_of}
-use Rattle.afdx_senders.specs.declared.sites.SourceOf.TheVariants.{Elsewhere, Nobody}
+use Rattle.afdx_senders.specs.Sites.{has_link, is_sent_at, is_site, named_as, sent_as, sent_by, sent_in, source_of}
+use Rattle.afdx_senders.specs.declared.sites.SourceOf.TheVariants.{Elsewhere, Nobody, Unknown}
 use Rattle.afdx_senders.specs.declared.sites.SourceOf.TheVariants.{Source as OfSourceAt}
 use Rattle.afdx_senders.proofs.ListLemmas.{all_joined, all_mapped, all_passed}
 use Rattle.afdx_senders.proofs.OwnLemmas.{of_place, port_same, terms_of}
@@ -214,15 +214,20 @@ module _ (z : Setup) (x : Arrival) (place : ℕ) where
   unfolding source_of sent_by
   sent_from is = by (link_named_by x.bytes) is
     where
-      two : (o : Option ℕ) → sent_in z.tables x.port o ≡ OfSourceAt place → IsSentFrom
-      two None e = absurd (cc)
-      two (Some k) e = sent_there k (slice_get z.tables.links k) refl e
+      beyond : (b : Bool) → (if b then Elsewhere else Unknown) ≡ OfSourceAt place → IsSentFrom
+      beyond true e = absurd (cc)
+      beyond false e = absurd (cc)
 
-      one : (b : Bool) (vl : VlId) → (if b then sent_by z.tables x.port vl else Nobody) ≡ OfSourceAt place → IsSentFrom
-      one true vl e = two (link_of z.tables.links vl.0) e
+      two : (vl : VlId) (o : Option ℕ) → sent_in z.tables z.among x.port vl o ≡ OfSourceAt place → IsSentFrom
+      two vl None e = beyond (has_link z.among vl.0) e
+      two vl (Some k) e = sent_there k (slice_get z.tables.links k) refl e
+
+      one : (b : Bool) (vl : VlId) → (if b then sent_by z.tables z.among x.port vl else Nobody) ≡ OfSourceAt place
+          → IsSentFrom
+      one true vl e = two vl (link_of z.tables.links vl.0) e
       one false vl e = absurd (cc)
 
-      by : (o : Option VlId) → named_as z.tables z.recorded x o ≡ OfSourceAt place → IsSentFrom
+      by : (o : Option VlId) → named_as z.tables z.among z.recorded x o ≡ OfSourceAt place → IsSentFrom
       by None e = absurd (cc)
       by (Some vl) e = one (is_site z.tables z.recorded x.side x.port) vl e
 

@@ -19,7 +19,7 @@ use Rattle.afdx_senders.specs.History.{AreOf, HaveTold, IsReachedBy, IsSettled}
 use Rattle.afdx_senders.specs.Lines.{Line, line_of}
 use Rattle.afdx_senders.specs.Order.{is_moment_before}
 use Rattle.afdx_senders.specs.Setups.{JudgesToo, Setup, nobody, own_frames, setup_with, source_at}
-use Rattle.afdx_senders.specs.Sites.{Recorded}
+use Rattle.afdx_senders.specs.Sites.{Among, Recorded}
 use Rattle.afdx_senders.specs.Standing.{SendersStand}
 use Rattle.afdx_senders.specs.Telling.{AreTold, IsBehind, IsEarly, known_lines}
 use Rattle.afdx_senders.specs.Terms.{Asked, terms_at}
@@ -62,20 +62,20 @@ none_told z before = record {
   early = All-nil (IsEarly before);
 }
 
-nobody_there : (t : Rows) (recorded : Recorded) (k : Asked) (place : ℕ) →
-    None ≡ source_at (setup_with t recorded k nobody) place
+nobody_there : (t : Rows) (among : Among) (recorded : Recorded) (k : Asked) (place : ℕ) →
+    None ≡ source_at (setup_with t among recorded k nobody) place
 unfolding source_at
-nobody_there t recorded k place = refl
+nobody_there t among recorded k place = refl
 
-pub at_rest : (t : Rows) (recorded : Recorded) (k : Asked) (before : Option ℕ) (senders : Senders) →
-    AreOf (setup_with t recorded k nobody) senders → SendersStand nothing_followed senders → senders.found ≡ [] →
-    HaveTold (setup_with t recorded k nobody) before [] [] senders
-at_rest t recorded k before senders of stand none =
-    let z = setup_with t recorded k nobody in
+pub at_rest : (t : Rows) (among : Among) (recorded : Recorded) (k : Asked) (before : Option ℕ) (senders : Senders) →
+    AreOf (setup_with t among recorded k nobody) senders → SendersStand nothing_followed senders →
+    senders.found ≡ [] → HaveTold (setup_with t among recorded k nobody) before [] [] senders
+at_rest t among recorded k before senders of stand none =
+    let z = setup_with t among recorded k nobody in
     record {
       at = nothing_followed;
       setup = of;
-      own = record { sources = nobody_there t recorded k; came = λ place f is. absurd (cc) };
+      own = record { sources = nobody_there t among recorded k; came = λ place f is. absurd (cc) };
       settled = λ place f is. absurd (cc);
       stand = stand;
       lines = subst (λ l. AreTold z before [] [] (map line_of l)) (sym none) (none_told z before);
@@ -132,6 +132,7 @@ module _ (z next : Setup) (place : ℕ) (too : JudgesToo place z next) where
     at = put_at place (newly s) h.at;
     setup = record {
       tables = of.tables ∙ sym too.tables;
+      among = of.among ∙ sym too.among;
       recorded = of.recorded ∙ sym too.recorded;
       room = of.room ∙ ap (λ (t : Rows). length t.links) (sym too.tables);
     };

@@ -1,6 +1,7 @@
 -- The worked rows compute.
 use Rattle.std.proofs.Common.{refl}
 use Rattle.afdx_config.specs.Reading.{link_of, listener_at, system_at_port}
+use Rattle.afdx_config.specs.Switches.{first_of}
 use Rattle.afdx_frame.specs.Carried.{carried_by, carried_in_body}
 use Rattle.afdx_frame.specs.Datagrams.{words, ones_sum}
 use Rattle.afdx_frame.specs.Parts.{frame_of}
@@ -24,7 +25,7 @@ unfolding carried_by carried_in_body words ones_sum frame_of shift number is_sea
     times_with_room found_alone flaw_of is_whole is_copy found_of found_coming quiet judged_source without_first
     may_pair waiting is_cut least_left all_lines lines_coming lines_when singles_below alone_up_to cut_up_to
     sent_up_to own_frames source_at is_sent_at is_site sent_by source_of id_of port_of rule_of link_of listener_at
-    system_at_port
+    system_at_port first_of
 all_worked = record {
   copied = refl;
   sent = refl;
@@ -34,6 +35,9 @@ all_worked = record {
   left_out = refl;
   not_its = refl;
   short = refl;
+  elsewhere = refl;
+  nowhere = refl;
+  unknown = refl;
   nobody = refl;
   one_side = refl;
   sent_there = refl;

@@ -9,10 +9,10 @@ use Rattle.afdx_config.specs.declared.rows.SystemId.{SystemId}
 use Rattle.afdx_frame.specs.declared.link.Side.{Side}
 use Rattle.afdx_frame.specs.declared.link.VlId.{VlId}
 use Rattle.afdx_law_bounds.specs.Tables.{port_of}
-use Rattle.afdx_senders.specs.Sites.{Recorded, came_at, is_sent_at, is_site, named_as, sent_as, sent_by, sent_in}
-use Rattle.afdx_senders.specs.Sites.{source_of}
+use Rattle.afdx_senders.specs.Sites.{Among, Recorded, came_at, is_sent_at, is_site, named_as, sent_as, sent_by, sent_in}
+use Rattle.afdx_senders.specs.Sites.{sent_beyond, source_of}
 use Rattle.afdx_senders.specs.declared.site_frame.SiteFrame.{SiteFrame}
-use Rattle.afdx_senders.specs.declared.sites.SourceOf.TheVariants.{Source, Elsewhere, Unknown, Nobody}
+use Rattle.afdx_senders.specs.declared.sites.SourceOf.TheVariants.{Source, Elsewhere, Nobody}
 
 -- ---- where a link is sent
 
@@ -42,27 +42,27 @@ module _ (t : Rows) (recorded : Recorded) (side : Side) (port : ℕ) where
 
 -- ---- by the link that a frame names
 
-module _ (t : Rows) (port : ℕ) (vl : VlId) where
+module _ (t : Rows) (among : Among) (port : ℕ) (vl : VlId) where
   pub sent_at : (place : ℕ) (l : LinkRow) (is : Bool) → link_of t.links vl.0 ≡ Some place →
       slice_get t.links place ≡ Some l → is_sent_at t l port ≡ is →
-      sent_by t port vl ≡ (if is then Source place else Elsewhere)
+      sent_by t among port vl ≡ (if is then Source place else Elsewhere)
   unfolding sent_by
   sent_at place l is found at sent =
-      ap (sent_in t port) found ∙ ap (sent_as t port place) at
+      ap (sent_in t among port vl) found ∙ ap (sent_as t port place) at
       ∙ ap (λ (b : Bool). if b then Source place else Elsewhere) sent
 
-  pub sent_nowhere : link_of t.links vl.0 ≡ None → sent_by t port vl ≡ Unknown
+  pub sent_nowhere : link_of t.links vl.0 ≡ None → sent_by t among port vl ≡ sent_beyond among vl.0
   unfolding sent_by
-  sent_nowhere none = ap (sent_in t port) none
+  sent_nowhere none = ap (sent_in t among port vl) none
 
-module _ (t : Rows) (recorded : Recorded) (x : SiteFrame) where
-  pub named_nothing : x.vl ≡ None → source_of t recorded (came_at x) ≡ Nobody
+module _ (t : Rows) (among : Among) (recorded : Recorded) (x : SiteFrame) where
+  pub named_nothing : x.vl ≡ None → source_of t among recorded (came_at x) ≡ Nobody
   unfolding source_of
-  named_nothing none = ap (named_as t recorded (came_at x)) (sym x.named ∙ none)
+  named_nothing none = ap (named_as t among recorded (came_at x)) (sym x.named ∙ none)
 
   pub named_some : (vl : VlId) (is : Bool) → x.vl ≡ Some vl → is_site t recorded x.side x.port ≡ is →
-      source_of t recorded (came_at x) ≡ (if is then sent_by t x.port vl else Nobody)
+      source_of t among recorded (came_at x) ≡ (if is then sent_by t among x.port vl else Nobody)
   unfolding source_of
   named_some vl is some site =
-      ap (named_as t recorded (came_at x)) (sym x.named ∙ some)
-      ∙ ap (λ (b : Bool). if b then sent_by t x.port vl else Nobody) site
+      ap (named_as t among recorded (came_at x)) (sym x.named ∙ some)
+      ∙ ap (λ (b : Bool). if b then sent_by t among x.port vl else Nobody) site

@@ -9,7 +9,7 @@ use Rattle.afdx_senders.specs.Followed.{ByPlace, Followed}
 use Rattle.afdx_senders.specs.Lines.{Line, line_of}
 use Rattle.afdx_senders.specs.Order.{IsBefore, is_moment_before}
 use Rattle.afdx_senders.specs.Setups.{Setup, own_frames, source_at}
-use Rattle.afdx_senders.specs.Sites.{recorded_in}
+use Rattle.afdx_senders.specs.Sites.{among_of, recorded_in}
 use Rattle.afdx_senders.specs.Standing.{SendersStand}
 use Rattle.afdx_senders.specs.Telling.{AreTold, AreToldBefore}
 use Rattle.afdx_senders.specs.declared.sender_line.SenderLine.{SenderLine}
@@ -39,6 +39,7 @@ AreSettled before at = (place : ℕ) (f : Followed) → at place ≡ Some f → 
 -- it works by this setup
 pub record AreOf (z : Setup) (senders : Senders) : Type 0 where
   pub tables : senders.sites.tables.now ≡ z.tables
+  pub among : among_of senders.sites ≡ z.among
   pub recorded : recorded_in senders.sites.recorded ≡ z.recorded
   pub room : length senders.kept.slots.items ≡ length z.tables.links
 

@@ -1,7 +1,8 @@
 -- Worked rows: all lines of short recordings at a switch with two systems and one link, whose
 -- frames are those of the rows of `afdx_lawful`.
-use Rattle.std.specs.Prelude.{◌≡◌, ℕ, true, false, None, List, [], ◌∷◌, codes}
+use Rattle.std.specs.Prelude.{◌≡◌, ℕ, true, false, None, Some, List, [], ◌∷◌, codes}
 use Rattle.afdx_config.specs.Rows.{LinkRow, Rows, SystemRow, example_link}
+use Rattle.afdx_config.specs.Switches.{named_rows}
 use Rattle.afdx_frame.specs.declared.fault.MacFault.TheVariants.{TooShort}
 use Rattle.afdx_frame.specs.declared.link.Policing.TheVariants.{Frame}
 use Rattle.afdx_frame.specs.declared.link.Side.{Side}
@@ -13,8 +14,8 @@ use Rattle.afdx_senders.specs.AllLines.{all_lines}
 use Rattle.afdx_senders.specs.Lines.{FoundBy, Line, OfNone, OfSource}
 use Rattle.afdx_senders.specs.SenderCounts.{alone_in, cut_in, sent_in}
 use Rattle.afdx_senders.specs.Setups.{Setup}
-use Rattle.afdx_senders.specs.Sites.{Recorded}
-use Rattle.afdx_senders.specs.declared.stray.Stray.TheVariants.{Damaged, NotItsLink}
+use Rattle.afdx_senders.specs.Sites.{Among, Recorded}
+use Rattle.afdx_senders.specs.declared.stray.Stray.TheVariants.{Damaged, NotItsLink, UnknownLink}
 
 abbrev pub sender : SystemRow
 sender = record { name = codes "s1"; port = 1; id = 1; partition = 1; rate = 100 }
@@ -48,6 +49,7 @@ a_alone B port = false
 abbrev pub setup : Recorded → ℕ → Setup
 setup recorded until = record {
   tables = tables;
+  among = None;
   recorded = recorded;
   asked = record {
     ways = λ place. record { skew = 1000000; latency = 17000; byte_ns = 80 } ∷ [];
@@ -60,6 +62,11 @@ setup recorded until = record {
 
 abbrev pub both_until : ℕ → Setup
 both_until until = setup both_sides until
+
+-- where the switch has no link, and is among such as have this one, or others
+abbrev pub without_links : Among → Setup
+without_links among =
+    record (both_until 0) { tables = record tables { links = [] }; among = among }
 
 -- what came, by its line, time, side, port and bytes
 abbrev pub came : ℕ → ℕ → Side → ℕ → List ℕ → Arrival
@@ -85,11 +92,19 @@ pub record WorkedSenderRows : Type 0 where
   -- a number is left out
   pub left_out : all_lines (both_until 0) (came 2 0 A 1 a2 ∷ came 1 0 A 1 a0 ∷ [])
       ≡ line_with 0 A 1 2 (OfSource (Number 2 1 ∷ Soon 2 500000 ∷ [])) ∷ []
-  -- where another system stands; damaged there; and where none does
+  -- where another system stands; damaged there
   pub not_its : all_lines (both_until 0) (came 1 0 A 3 a0 ∷ [])
       ≡ line_with 0 A 3 1 (OfNone NotItsLink) ∷ []
   pub short : all_lines (both_until 0) (came 1 0 A 3 short_one ∷ [])
       ≡ line_with 0 A 3 1 (OfNone (Damaged TooShort)) ∷ []
+  -- of a link that the switch doesn't have, but another one of the configuration, or none
+  pub elsewhere : all_lines (without_links (Some (named_rows (codes "aft") tables ∷ [])))
+      (came 1 0 A 1 a0 ∷ []) ≡ line_with 0 A 1 1 (OfNone NotItsLink) ∷ []
+  pub nowhere : all_lines (without_links (Some [])) (came 1 0 A 1 a0 ∷ [])
+      ≡ line_with 0 A 1 1 (OfNone UnknownLink) ∷ []
+  pub unknown : all_lines (without_links None) (came 1 0 A 1 a0 ∷ [])
+      ≡ line_with 0 A 1 1 (OfNone UnknownLink) ∷ []
+  -- where no system stands
   pub nobody : all_lines (both_until 0) (came 1 0 A 5 a0 ∷ []) ≡ []
   -- one side alone was recorded: nothing waits there, and nothing is known of the other
   pub one_side : all_lines (setup a_alone 988760) (came 2 0 B 1 b0 ∷ came 1 0 A 1 a0 ∷ []) ≡ []

@@ -4,24 +4,30 @@ use Rattle.std.specs.Prelude.{List, filter, map, option_map, slice_get}
 use Rattle.afdx_config.specs.Rows.{LinkRow, Rows}
 use Rattle.afdx_lawful.specs.Sources.{Came, Source, came_with}
 use Rattle.afdx_police.specs.Arrival.{Arrival}
-use Rattle.afdx_senders.specs.Sites.{Recorded, source_of}
+use Rattle.afdx_senders.specs.Sites.{Among, Recorded, source_of}
 use Rattle.afdx_senders.specs.Terms.{Asked, terms_at}
 use Rattle.afdx_senders.specs.declared.sites.SourceOf.{SourceOf}
 use Rattle.afdx_senders.specs.declared.sites.SourceOf.TheVariants.{Elsewhere, Nobody}
 use Rattle.afdx_senders.specs.declared.sites.SourceOf.TheVariants.{Source as OfSource, Unknown}
 
--- the tables of the switch, its ports that were recorded, what is asked for, and the links whose
--- senders are judged, by their places
+-- the tables of the switch, those that it is among, its ports that were recorded, what is asked
+-- for, and the links whose senders are judged, by their places
 pub record Setup : Type 0 where
   pub tables : Rows
+  pub among : Among
   pub recorded : Recorded
   pub asked : Asked
   pub is_judged : ℕ → Bool
 
 -- in this order
-abbrev pub setup_with : Rows → Recorded → Asked → (ℕ → Bool) → Setup
-setup_with t recorded k is_judged =
-    record { tables = t; recorded = recorded; asked = k; is_judged = is_judged }
+abbrev pub setup_with : Rows → Among → Recorded → Asked → (ℕ → Bool) → Setup
+setup_with t among recorded k is_judged = record {
+  tables = t;
+  among = among;
+  recorded = recorded;
+  asked = k;
+  is_judged = is_judged;
+}
 
 abbrev pub nobody : ℕ → Bool
 nobody place = false
@@ -29,6 +35,7 @@ nobody place = false
 -- the same, and the sender of the link at this place is judged, too
 pub record JudgesToo (place : ℕ) (z next : Setup) : Type 0 where
   pub tables : next.tables ≡ z.tables
+  pub among : next.among ≡ z.among
   pub recorded : next.recorded ≡ z.recorded
   pub asked : next.asked ≡ z.asked
   pub judged : (k : ℕ) → next.is_judged k ≡ (if nat_eq k place then true else z.is_judged k)
@@ -59,7 +66,7 @@ module _ (z : Setup) where
 
   -- whose a frame is
   abbrev pub whose : Arrival → SourceOf
-  whose x = source_of z.tables z.recorded x
+  whose x = source_of z.tables z.among z.recorded x
 
   -- of all frames those of the source of the link at this place
   unfoldable pub own_frames : ℕ → List Arrival → List Came

@@ -6,7 +6,7 @@ ghost use Rattle.afdx_senders.specs.Followed.{ByPlace, IsFound};
 ghost use Rattle.afdx_senders.specs.Lines.{AddsLines, MayComeThere, MayComeTo, after_came, came_there};
 ghost use Rattle.afdx_senders.specs.Lines.{found_at, found_by, lines_found, lines_strayed, some_found};
 ghost use Rattle.afdx_senders.specs.Lines.{told_line};
-ghost use Rattle.afdx_senders.specs.Sites.{came_at, recorded_in, source_of};
+ghost use Rattle.afdx_senders.specs.Sites.{among_of, came_at, recorded_in, source_of};
 ghost use Rattle.afdx_senders.specs.Standing.{SendersStand};
 
 use crate::agenda::put_due;
@@ -88,13 +88,13 @@ impl Senders<'_> {
     /// A frame came at a port of the switch.
     pub(crate) fn hear(&mut self, x: &SiteFrame<'_>) -> Result<(), AllocError>
         ensures stands { (at : ByPlace) →
-            let whose = source_of self.old.sites.tables.now (recorded_in self.old.sites.recorded)
-            (came_at x.now) in
+            let whose = source_of self.old.sites.tables.now (among_of self.old.sites)
+            (recorded_in self.old.sites.recorded) (came_at x.now) in
             MayComeTo at x.now whose → SendersStand at self.old →
             OnOk result (SendersStand (after_came at x.now whose) self.new) }
         ensures found { (at : ByPlace) →
-            let whose = source_of self.old.sites.tables.now (recorded_in self.old.sites.recorded)
-            (came_at x.now) in
+            let whose = source_of self.old.sites.tables.now (among_of self.old.sites)
+            (recorded_in self.old.sites.recorded) (came_at x.now) in
             MayComeTo at x.now whose → SendersStand at self.old →
             OnOk result (AddsLines (lines_found x.now (found_by at x.now whose))
             self.old.found self.new.found) }

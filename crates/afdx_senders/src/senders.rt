@@ -1,7 +1,7 @@
 //! The systems of a switch, judged as senders while frames come at its ports.
 
 ghost use Rattle.std.specs.Prelude.{◌≡◌, ◌<◌, ◌∷◌, ◌^◌, ℕ, List, [], None, Option, Some};
-ghost use Rattle.std.specs.Prelude.{IfOk, IsSome, OnErr, OnOk, length, slice_get};
+ghost use Rattle.std.specs.Prelude.{IfOk, IsSome, OnErr, OnOk, length, option_map, slice_get};
 ghost use Rattle.afdx_config.specs.Rows.{LinkRow};
 ghost use Rattle.afdx_conform.specs.LeewayOf.{leeway_of};
 ghost use Rattle.afdx_lawful.specs.Tallies.{counted};
@@ -23,7 +23,7 @@ use crate::recorded_ports::RecordedPorts;
 use crate::sender_line::SenderLine;
 use crate::site_frame::SiteFrame;
 use crate::sites::SenderSites;
-use afdx_config::Tables;
+use afdx_config::{Switches, Tables};
 use afdx_conform::{Leeway, Spare};
 use afdx_lawful::{Apart, SourceCounts};
 use std::alloc::{AllocError, Global};
@@ -40,20 +40,23 @@ pub struct Senders<'a> {
 }
 
 impl<'a> Senders<'a> {
-    /// Those of the tables, where these ports were recorded. None is judged yet. Fails only out of
+    /// Those of the tables, where these ports were recorded; `among` are all switches of the
+    /// configuration, where it describes several a side. None is judged yet. Fails only out of
     /// memory.
     pub fn new(
         alloc: Global,
         tables: &'a Tables,
+        among: Option<&'a Switches>,
         recorded: RecordedPorts,
     ) -> Result<Senders<'a>, AllocError>
         ensures nothing { (k : What) (before : Option ℕ) → IfOk result (λ senders.
-            HaveTold (setup_with tables.now (recorded_in recorded) k nobody) before [] [] senders) }
+            HaveTold (setup_with tables.now (option_map (λ switches. switches.now) among.entry)
+            (recorded_in recorded) k nobody) before [] [] senders) }
         ensures tables { IfOk result (λ senders. senders.sites.tables.now ≡ tables.now) }
         ensures room { IfOk result (λ senders.
             length senders.kept.slots.items ≡ length tables.now.links) }
     {
-        let sites = SenderSites::new(alloc, tables, recorded)?;
+        let sites = SenderSites::new(alloc, tables, among, recorded)?;
         let kept = FollowedSources::new(alloc, tables.link_count())?;
         Ok(Senders {
             sites,

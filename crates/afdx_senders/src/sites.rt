@@ -1,14 +1,14 @@
 //! Whose a frame is that came at a port of a switch.
 
-ghost use Rattle.std.specs.Prelude.{◌≡◌, ◌<◌, IfOk, IfSome, OnOk, Some, length, slice_get};
+ghost use Rattle.std.specs.Prelude.{◌≡◌, ◌<◌, IfOk, IfSome, OnOk, Some, length, option_map, slice_get};
 ghost use Rattle.afdx_config.specs.Rows.{LinkRow};
 ghost use Rattle.afdx_senders.specs.Sites as spec;
-ghost use Rattle.afdx_senders.specs.Sites.{came_at, recorded_in};
+ghost use Rattle.afdx_senders.specs.Sites.{among_of, came_at, recorded_in};
 
 use crate::link_places::LinkPlaces;
 use crate::recorded_ports::RecordedPorts;
 use crate::site_frame::SiteFrame;
-use afdx_config::Tables;
+use afdx_config::{Switches, Tables};
 use afdx_frame::{Side, VlId};
 use std::alloc::{AllocError, Global};
 
@@ -19,16 +19,18 @@ pub enum SourceOf {
     Source(usize),
     /// A link's that the system there doesn't send.
     Elsewhere,
-    /// A link's that the tables don't have.
+    /// A link's that the configuration doesn't have.
     Unknown,
     /// Nobody's: it names no link, or no recorded system stands there.
     Nobody,
 }
 
-/// The ports of a switch at which its systems stand, and which of them were recorded.
+/// The ports of a switch at which its systems stand, and which of them were recorded; and all
+/// switches of the configuration, where it describes several a side.
 #[derive(Debug, Drop)]
 pub struct SenderSites<'a> {
     pub(crate) tables: &'a Tables,
+    pub(crate) among: Option<&'a Switches>,
     pub(crate) recorded: RecordedPorts,
     places: LinkPlaces,
 }
@@ -44,19 +46,37 @@ fn is_sent_at(tables: &Tables, place: usize, port: u8) -> bool
     tables.is_own(from) && tables.system(from).port == port
 }
 
+/// Whose a frame of this link is where its switch has no row of it.
+fn sent_beyond(among: Option<&Switches>, vl: VlId) -> SourceOf
+    ensures { result ≡ spec.sent_beyond (option_map (λ switches. switches.now) among.entry) vl.0 }
+{
+    let Some(switches) = among else {
+        return SourceOf::Unknown;
+    };
+    match switches.first_of(vl) {
+        Some(_) => SourceOf::Elsewhere,
+        None => SourceOf::Unknown,
+    }
+}
+
 impl<'a> SenderSites<'a> {
-    /// Those of the tables, of which these were recorded.
+    /// Those of the tables, of which these were recorded; among these switches, if there are
+    /// several a side.
     pub fn new(
         alloc: Global,
         tables: &'a Tables,
+        among: Option<&'a Switches>,
         recorded: RecordedPorts,
     ) -> Result<SenderSites<'a>, AllocError>
         ensures tables { IfOk result (λ sites. sites.tables.now ≡ tables.now) }
+        ensures among { IfOk result (λ sites.
+            among_of sites ≡ option_map (λ switches. switches.now) among.entry) }
         ensures recorded { IfOk result (λ sites. sites.recorded ≡ recorded) }
     {
         let places = LinkPlaces::new(alloc, tables)?;
         Ok(SenderSites {
             tables,
+            among,
             recorded,
             places,
         })
@@ -72,7 +92,7 @@ impl<'a> SenderSites<'a> {
 
     /// Whose a frame of this link is that came at a port where a system stands.
     fn sent_by(&self, vl: VlId, port: u8) -> SourceOf
-        ensures { result ≡ spec.sent_by self.now.tables.now port vl }
+        ensures { result ≡ spec.sent_by self.now.tables.now (among_of self.now) port vl }
     {
         match self.places.of(self.tables, vl) {
             Some(place) => {
@@ -82,14 +102,14 @@ impl<'a> SenderSites<'a> {
                     SourceOf::Elsewhere
                 }
             }
-            None => SourceOf::Unknown,
+            None => sent_beyond(self.among, vl),
         }
     }
 
     /// Whose a frame is.
     pub fn source_of(&self, x: &SiteFrame<'_>) -> SourceOf
-        ensures { result ≡
-            spec.source_of self.now.tables.now (recorded_in self.now.recorded) (came_at x.now) }
+        ensures { result ≡ spec.source_of self.now.tables.now (among_of self.now)
+            (recorded_in self.now.recorded) (came_at x.now) }
     {
         let Some(vl) = x.vl else {
             return SourceOf::Nobody;

@@ -12,7 +12,7 @@ use afdx_frame::{Checked, MacFault, MacView};
 pub enum Stray {
     /// It is too short or too long, or its check sequence is wrong.
     Damaged(MacFault),
-    /// No row has the link that it names.
+    /// No row of the configuration has the link that it names.
     UnknownLink,
     /// The system that stands there doesn't send the link that it names.
     NotItsLink,

@@ -174,7 +174,7 @@ fn new_run<'a>(
     if tables.link_count() != 2 {
         return Ok(None);
     }
-    let mut senders = match Senders::new(alloc, tables, recorded(row.seen)) {
+    let mut senders = match Senders::new(alloc, tables, None, recorded(row.seen)) {
         Ok(senders) => senders,
         Err(refused) => return Err(refused),
     };

@@ -5,17 +5,23 @@ use crate::texts::short_text;
 use afdx_command_conform::{AsLists, ByRole, Choices, Leeway};
 use afdx_command_senders::{SenderChoices, SenderQuestion, judge_senders};
 use afdx_input_lines::Watched;
-use afdx_test_samples::{ShortText, base, equal, spelled};
+use afdx_test_samples::{ShortText, base, equal, spelled, two_switches};
 use afdx_text::Output;
 use std::alloc::Global;
 use std::test::Fail;
 
-/// The status, and what is written, of the base tables and this list.
-fn judged(alloc: Global, came: &str) -> Result<(u8, ShortText), Fail> {
+/// The status, and what is written, of a configuration, a switch of it, and this list.
+fn judged_at(
+    alloc: Global,
+    config: &str,
+    switch: Option<&str>,
+    came: &str,
+) -> Result<(u8, ShortText), Fail> {
     let leeway = Leeway::new(0, 0, 0, 0, None).ok_or("a leeway")?;
     let choices = Choices::new(leeway, None, Vec::new(alloc), false, false).ok_or("choices")?;
     let what = SenderQuestion {
-        config: base().as_bytes(),
+        config: config.as_bytes(),
+        switch,
         asked: SenderChoices::new(&choices, None).ok_or("a distance")?,
     };
     let came = spelled(alloc, came)?;
@@ -31,6 +37,11 @@ fn judged(alloc: Global, came: &str) -> Result<(u8, ShortText), Fail> {
     Ok((judged.status, text))
 }
 
+/// The same, of the base tables.
+fn judged(alloc: Global, came: &str) -> Result<(u8, ShortText), Fail> {
+    judged_at(alloc, base(), None, came)
+}
+
 #[test]
 fn recorded_senders_are_judged(rt: HostRuntime) -> Result<(), Fail> {
     let (status, text) = judged(rt.alloc(), "F 0 A 1 H1\n")?;
@@ -42,6 +53,17 @@ fn recorded_senders_are_judged(rt: HostRuntime) -> Result<(), Fail> {
                   deviates 1 explained 0 open 0 uncertain 0 left-out 0 unseen 4 idle 0 \
                   sent 0 cut 1 alone 0\n";
     equal((status, text.as_str()), (5, wanted))
+}
+
+#[test]
+fn senders_at_one_of_several_switches_are_judged(rt: HostRuntime) -> Result<(), Fail> {
+    let came = "F 0 A 2 H2\nF 0 A 20 H1\n";
+    let (status, text) = judged_at(rt.alloc(), two_switches(), Some("aft"), came)?;
+    let wanted = "conforms explained 0 open 0 uncertain 0 left-out 0 unseen 6 idle 0 \
+                  sent 1 cut 1 alone 0\n";
+    equal((status, text.as_str()), (0, wanted))?;
+    let (status, text) = judged_at(rt.alloc(), two_switches(), None, came)?;
+    equal((status, text.as_str()), (2, ""))
 }
 
 #[test]

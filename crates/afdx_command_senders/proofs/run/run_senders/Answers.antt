@@ -14,6 +14,7 @@ use Rattle.afdx_command_conform.specs.Written.{Begins}
 use Rattle.afdx_command_senders.proofs.SenderRunLemmas.{no-lines}
 use Rattle.afdx_command_senders.proofs.SettingLemmas.{is-setting, nothing-early}
 use Rattle.afdx_command_senders.specs.Asked.{Asked, asked_of}
+use Rattle.afdx_command_senders.specs.Outlook.{outlook_of}
 use Rattle.afdx_command_senders.specs.SenderAnswers.{SendersAnswer}
 use Rattle.afdx_command_senders.specs.SenderLines.{AreAllLines, AreEarlyLines, AreFirstLines, RunRules}
 use Rattle.afdx_command_senders.specs.SenderRun.{CountsAll, TellsItems, TellsItemsToEnd}
@@ -26,18 +27,19 @@ pub returns-in_err-judging-clause-answer : goal.returns-in_err-judging-clause-an
 returns-in_err-judging-clause-answer g c =
     let old = g.O.Sink.written c.args.output.now in
     let a : Asked = asked_of (g.P.Tapping.tapped c.args.options) c.args.asked in
-    let z = setting_of c.args.tables.now a in
+    let o = outlook_of c.args.outlook in
+    let z = setting_of o a in
     let k : RunRules = (z, a) in
     let e : c.from_residual.result ≡ Err run.Memory = search rules in
     rw e (where-known (g.A.RunInput.known c.args.inputs.now) _ (λ bytes known. (
       z,
-      is-setting c.args.tables.now a,
+      is-setting o a,
       answers-memory
-          (g.A.RunInput.Takes TakesFrames c.args.options (ports_of_one c.args.tables.now) bytes c.args.inputs.now)
+          (g.A.RunInput.Takes TakesFrames c.args.options (ports_of_one o.tables) bytes c.args.inputs.now)
           (AreAllLines k) (AreEarlyLines k) (AreFirstLines k) c.args.asked.choices.now.is_lossy old
           (record { told = []; are = sym no-lines; are_early = nothing-early z a.run.until 0 })
-          (c.takes_none.ensures frames (thing_of frames listed_frame) c.args.options (ports_of_one c.args.tables.now)
-          bytes c.args.inputs.now c.requires.new known),
+          (c.takes_none.ensures frames (thing_of frames listed_frame) c.args.options (ports_of_one o.tables) bytes
+          c.args.inputs.now c.requires.new known),
     )))
 
 pub run_judged-requires-clause-ready : goal.run_judged-requires-clause-ready
@@ -56,14 +58,15 @@ returns-clause-answer g c =
     let a : Asked = asked_of (taps_in c.taps-taps.result) c.args.asked in
     let k : RunRules = (new.0, a) in
     let j = c.run_judged.new.judge in
+    let o = outlook_of c.args.outlook in
     subst (λ (p : Taps). SendersAnswer (g.A.RunInput.known c.args.inputs.now)
-    (g.A.RunInput.Takes TakesFrames c.args.options) c.run_judged.new.inputs c.args.tables.now p c.args.asked old last
+    (g.A.RunInput.Takes TakesFrames c.args.options) c.run_judged.new.inputs o p c.args.asked old last
     c.run_judged.result) c.taps-taps.ensures
     (if-some (λ bytes h. (
       new.0,
       new.1,
       run-answers
-          (g.A.RunInput.Takes TakesFrames c.args.options (ports_of_one c.args.tables.now) bytes c.run_judged.new.inputs)
+          (g.A.RunInput.Takes TakesFrames c.args.options (ports_of_one o.tables) bytes c.run_judged.new.inputs)
           (AreAllLines k) (AreEarlyLines k) (AreFirstLines k) c.args.asked.choices.now.is_lossy
           (TellsItemsToEnd k j) (TellsItems k j)
           (λ start written past. Begins start written (AreFirstLines k (frames_of past)))

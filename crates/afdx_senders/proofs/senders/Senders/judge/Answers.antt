@@ -23,7 +23,12 @@ returns-clause-judges c z next before l there leeway apart too h =
     (subst (λ (r : Rows). slice_get r.links place ≡ Some l) (sym h.setup.tables) there) leeway
     (subst (λ f. IsApart f c.args.apart) (sym same) apart) in
     judged_too z next place too before l c.args.self.now _ there h
-    (record { tables = h.setup.tables; recorded = h.setup.recorded; room = c.put.ensures.room ∙ h.setup.room }) refl
+    (record {
+      tables = h.setup.tables;
+      among = h.setup.among;
+      recorded = h.setup.recorded;
+      room = c.put.ensures.room ∙ h.setup.room;
+    }) refl
     (record {
       followed = c.put.ensures.follows h.at (newly s)
           (subst (λ f. StandsFor f at_first c.source-source.result) same source) h.stand.followed;
