@@ -304,6 +304,29 @@ senders_tests() {
         wants_page "$judged/out/report.html"
         "$python" tests/tools/html_tags.py "$judged/out/report.html"
     )"
+    launch tools/afdx-report --conform --senders examples/base.toml "$judged/came.list" \
+        --junit "$judged/junit.xml" --out "$judged/out"
+    tell 'senders alone' "$(
+        is_status 5
+        says out 'senders     deviates '
+        says out 'together    Senders left the law: '
+        says out 'No switch was judged.'
+        wants_number "$json" 'r["verdict"], r["fault"], "premises" in r' "('', '', False)"
+        wants_number "$json" "sum(s['sent'] for s in r['senders']) - ${sums}['sent']" 0
+        wants_number "$json" 'r["run"]["files"][1][0]' CAME
+        wants_cases "$judged/junit.xml" '2 0 1'
+        wants_page "$judged/out/report.html"
+        if [[ -e $judged/out/streams.csv ]]; then echo 'there is a table of a switch'; fi
+        "$python" tests/tools/html_tags.py "$judged/out/report.html"
+    )"
+    echo 'F 0 A' >"$judged/none.list"
+    launch tools/afdx-report --conform --senders examples/base.toml "$judged/none.list" \
+        --out "$judged/out"
+    tell 'senders alone, of a list with a fault' "$(
+        is_status 3
+        wants_text "$(cat "$work/err")" 'afdx-report: list came BadLine 1' 'the fault'
+        says out 'senders     none: list came BadLine 1'
+    )"
     sent_and_left 0 0
     judge
     tell 'nothing is said of senders where nobody asks' "$(
@@ -353,6 +376,12 @@ recorded_senders_tests() {
         says out 'finding     number: frame 6 at 3000300 ns, link 1, port 1 (s1) of B: 1 was next'
         wants_number "$json" '[(d["line"], d["interface"], d["stamp"][-18:])
             for d in r["sender_deviations"] if d["side"] == "B"]' "[(6, 1, '00:00:00.003000300')]"
+    )"
+    judge_recorded --senders --interface 0=A:1 --interface 1=B:1 -- "$judged/run.pcapng"
+    tell 'recorded senders alone' "$(
+        is_status 5
+        wants_number "$json" '[s["networks"] for s in r["senders"]]' "['AB']"
+        wants_number "$json" '[d["line"] for d in r["sender_deviations"]]' '[5, 6]'
     )"
     judge_recorded --senders --interface 0=A:1 --left 0=A:3 --from 500000 -- "$judged/A.pcap" \
         "$judged/out.pcap"

@@ -16,7 +16,7 @@ from afdx_tools.conformance.measuring import Measured
 from afdx_tools.conformance.options import Options, add_sender_words, refuse_conform_options
 from afdx_tools.conformance.recorded import Stood, Taps
 from afdx_tools.conformance.senders import Senders, source_words, totals_of
-from afdx_tools.conformance.together import premises, sentence, status_of
+from afdx_tools.conformance.together import of_senders_alone, premises, sentence, status_of
 from afdx_tools.faults import Refused
 from afdx_tools.lists import listed_of
 
@@ -189,6 +189,10 @@ class Together(unittest.TestCase):
             found = self.says(**words)  # type: ignore[arg-type]
             self.assertIn(told, found)
             self.assertTrue(found.endswith(said), found)
+
+    def test_senders_alone(self) -> None:
+        self.assertEqual(of_senders_alone(sent_of([GOOD])),
+                         "No sender left the law. No switch was judged.")
 
     def test_faults(self) -> None:
         judged, told = Judged(fault="list left BadLine 1", status=3), sent_of([OUT[-1]])

@@ -36,6 +36,7 @@ TABLES = {
     "stamps": "Stamps by port: their steps, and how near to one another frames stand, in ns",
     "offsets": "Left less came, less the time on the line, by input and output port, in ns",
 }
+OF_SWITCH = ("groups", "deviations", "streams", "offsets", "idle", "unseen")
 PROVED = (
     "Proved: the verdict, its counts and each finding are lines of the proved program, and so are "
     "the bounds of the ports (P). `conforms` says that what left at the recorded ports is what the "
@@ -65,10 +66,17 @@ CARDS = {
 }
 
 
+def is_judged(report: Row) -> bool:
+    """A switch was judged, and not what systems sent alone."""
+    return bool(report["verdict"] or report["fault"])
+
+
 def answer(report: Row) -> str:
     """The verdict, or the fault that was in its way; how much of the account was tested."""
     parts = []
-    if report["fault"]:
+    if not is_judged(report):
+        parts.append(badge("no switch was judged", "muted"))
+    elif report["fault"]:
         parts.append(badge(f"the run ended with: {report['fault']}", "bad"))
         if no_verdict(report):
             parts.append(f'<span class="muted">There is no verdict: {no_verdict(report)}</span>')
@@ -110,9 +118,16 @@ def picture(report: Row, most: int) -> str:
     return section("picture", head, words, figures.latencies(pairs[:most], bound, "as recorded"))
 
 
+def shown_in(report: Row) -> dict[str, str]:
+    """The tables of a report, with their heads: where no switch was judged, those that say nothing
+    of one."""
+    return {name: head for name, head in TABLES.items()
+            if name in report and (is_judged(report) or name not in OF_SWITCH)}  # fmt: skip
+
+
 def tables(report: Row) -> str:
     """All tables, and the field that finds rows in them."""
-    shown = {name: report[name] for name in TABLES if name in report}
+    shown = {name: report[name] for name in shown_in(report)}
     papers = on_paper(shown)
     sections = [
         table_section(
@@ -130,6 +145,8 @@ def words_of(report: Row) -> str:
     words = f"{totals['measured']:,} of {totals['of_streams']:,} frames that left were measured."
     if report["fault"]:
         words = "Nothing was measured."
+    if not is_judged(report):
+        words = "What systems sent was judged, and no switch."
     if report["run"].get("time_0"):
         words += f" Time 0 is {report['run']['time_0']}."
     for name, counts in report.get("skipped", {}).items():
@@ -159,14 +176,16 @@ def page(report: Row, most: int) -> str:
     names |= {"unseen": "what isn't judged"} if "unseen" in report else {}
     names |= {"senders": "senders"} if "of_senders" in report else {}
     names |= {"stamps": "stamps", "made": "what made it"}
+    names = {name: words for name, words in names.items()
+             if name not in ("picture", *OF_SWITCH) or is_judged(report)}  # fmt: skip
     cards = [(words, totals[key], False) for key, words in CARDS.items() if key in totals]
-    cards += [(word, totals[word], True) for word in findings()]
+    cards += [(word, totals[word], True) for word in findings() if is_judged(report)]
     cards += cards_of_senders(report)
     parts = [
         answer(report),
         links_of(names),
         cards_of(cards),
-        picture(report, most),
+        picture(report, most) if is_judged(report) else "",
         tables(report),
     ]  # fmt: skip
     title = f"AFDX conformance: {report['run']['title']}"

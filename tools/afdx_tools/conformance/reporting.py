@@ -18,13 +18,13 @@ from afdx_tools.conformance.judging import Judged, Line, Sent, judge, judge_send
 from afdx_tools.conformance.measuring import Measured, links_at, numbers_in
 from afdx_tools.conformance.numbers import Numbers, totals_of
 from afdx_tools.conformance.options import Options
-from afdx_tools.conformance.page import COUNTED, PROVED, TABLES, page
+from afdx_tools.conformance.page import COUNTED, PROVED, is_judged, page, shown_in
 from afdx_tools.conformance.proposals import Proposals
 from afdx_tools.conformance.recorded import Ends, Reading, Recorded, Taps
 from afdx_tools.conformance.senders import Senders, source_words
 from afdx_tools.conformance.senders import totals_of as totals_of_senders
 from afdx_tools.conformance.text import print_text
-from afdx_tools.conformance.together import premises, sentence, status_of
+from afdx_tools.conformance.together import of_senders_alone, premises, sentence, status_of
 from afdx_tools.explaining import explain
 from afdx_tools.faults import Failed, Refused, shown
 from afdx_tools.inputs import as_file, at_hand
@@ -47,7 +47,7 @@ TOO_FAR_BACK = "recording TimeBack"  # how a fault begins
 
 class Inputs(NamedTuple):
     """What is judged, at hand to be read more than once: the configuration, what came and what
-    left; and whether these are recordings. One recording has both."""
+    left; and whether these are recordings. One recording has both; one list what came."""
 
     config: str
     paths: list[str]
@@ -55,7 +55,12 @@ class Inputs(NamedTuple):
 
     def names(self) -> list[str]:
         """What the inputs are, one word each."""
-        return ["the recording"] if len(self.paths) == 1 else ["CAME", "LEFT"]
+        names = ["CAME", "LEFT"][: len(self.paths)]
+        return ["the recording"] if self.are_recorded and len(names) == 1 else names
+
+    def are_of_senders(self, options: Options) -> bool:
+        """They have what came alone, by which senders are judged."""
+        return options.senders and len(self.paths) == 1 and not options.recorders.left
 
 
 @contextlib.contextmanager
@@ -67,7 +72,8 @@ def inputs_of(args: argparse.Namespace, options: Options) -> Iterator[Inputs]:
         names = (args.config, args.list, args.other)
         paths = [files.enter_context(at_hand(name)) for name in names if name is not None]
         are_said = bool(options.of_recordings) or args.taps is not None
-        if not are_said and (args.other is None or any(map(is_recording, paths[1:]))):
+        lacks_one = args.other is None and not options.senders
+        if not are_said and (lacks_one or any(map(is_recording, paths[1:]))):
             raise Refused(
                 "--interface and --left have to say where the frames of a recording came in and "
                 "left; frame lists are two: CAME and LEFT"
@@ -96,28 +102,29 @@ class Every:
 
 
 def read(
-    inputs: Inputs, options: Options, judged: Judged, config: Config
+    inputs: Inputs, options: Options, judged: Judged, fault: str, config: Config
 ) -> tuple[Iterable[Frame], Iterable[Frame], Recorded]:
     """What came and what left, nothing where a fault ended the run; and what recordings say: after
     a fault only how far back frames stand, if that is the fault. Which frames lines about senders
-    name isn't known yet."""
-    if judged.fault and not (inputs.are_recorded and judged.fault.startswith(TOO_FAR_BACK)):
+    name may not be known yet."""
+    if fault and not (inputs.are_recorded and fault.startswith(TOO_FAR_BACK)):
         return (), (), Recorded()
     if not inputs.are_recorded:
-        came, left = map(frames_of_list, inputs.paths)
-        return came, left, Recorded()
+        came, *left = map(frames_of_list, inputs.paths)
+        return came, left[0] if left else (), Recorded()
     ends = Ends(config, links_at(config, options.switch)[0])
     wanted: Mapping[bool, Container[int]] = numbers_in(judged.deviations)
     wanted = {**wanted, False: Every()} if options.senders else wanted
     reading = Reading(options.recorders, ends, wanted)
     recorded = reading.read(inputs.paths)
-    if judged.fault:
+    if fault:
         return (), (), Recorded(back=recorded.back)
     return recorded.came, recorded.left, recorded
 
 
-def sent_to(inputs: Inputs, options: Options, recorded: Recorded) -> Sent:
-    """What the program says of the systems, by what came alone."""
+def sent_to(inputs: Inputs, options: Options, recorded: Recorded = Recorded()) -> Sent:
+    """What the program says of the systems, by what came alone. Where that isn't all that is
+    judged, times count from the first frame of all."""
     later = recorded.came[0].time if recorded.came else 0
     return judge_senders([*options.words_of_senders(later), inputs.config, inputs.paths[0]])
 
@@ -159,13 +166,20 @@ def report_of(
     cover = Cover(args.cover) if args.cover else None
     called, checked = version(), check(program(), inputs.config)
     progress.report("judging")
-    more = [*options.of_recordings, "--summary"] if inputs.are_recorded else []
-    judged = judge([*options.words(), *more, inputs.config, *inputs.paths])
+    judged, sent, are_alone = Judged(), None, inputs.are_of_senders(options)
+    if are_alone:
+        sent = sent_to(inputs, options)
+    else:
+        more = [*options.of_recordings, "--summary"] if inputs.are_recorded else []
+        judged = judge([*options.words(), *more, inputs.config, *inputs.paths])
     progress.report("measuring")
     config = read_config(inputs.config)
-    came, left, recorded = read(inputs, options, judged, config)
-    sent = sent_to(inputs, options, recorded) if options.senders else None
-    taps = options.recorders.taps() if inputs.are_recorded else Taps()
+    fault = sent.fault if sent else judged.fault
+    came, left, recorded = read(inputs, options, judged, fault, config)
+    if options.senders and not sent:
+        sent = sent_to(inputs, options, recorded)
+    taps = Taps(left=frozenset()) if are_alone else Taps()
+    taps = options.recorders.taps() if inputs.are_recorded else taps
     found: Sequence[Line] = [*judged.deviations, *(sent.amiss if sent else ())]
     measured = Measured(config, options, came, left, found, taps)
     stood = recorded.stood if inputs.are_recorded else None
@@ -198,18 +212,23 @@ def of_senders(
     """What a report has where senders were judged, too. After a fault nothing was counted."""
     senders = Senders(numbers.measured, sent, numbers.stood)
     sources = [] if judged.fault or sent.fault else senders.sources()
-    least = None if options.apart is None else least_apart(inputs.config)
-    asked = premises(numbers.checked.answer, judged, sent, options, least)
+    told: Row = {
+        "verdict": sent.verdict,
+        "fault": sent.fault,
+        "status": sent.status,
+        "totals": totals_of_senders(sent),
+    }
+    if inputs.are_of_senders(options):
+        both: Row = {"says": of_senders_alone(sent), "status_of_both": sent.status}
+        asked = []
+    else:
+        least = None if options.apart is None else least_apart(inputs.config)
+        asked = premises(numbers.checked.answer, judged, sent, options, least)
+        says = sentence(judged, sent, asked)
+        both = {"says": says, "status_of_both": status_of(judged, sent)}
     return {
-        "of_senders": {
-            "verdict": sent.verdict,
-            "fault": sent.fault,
-            "status": sent.status,
-            "totals": totals_of_senders(sent),
-            "says": sentence(judged, sent, asked),
-            "status_of_both": status_of(judged, sent),
-        },
-        "premises": [premise.row() for premise in asked],
+        "of_senders": told | both,
+        **({"premises": [premise.row() for premise in asked]} if asked else {}),
         "senders": named_rows(sources, naming),
         "sender_deviations": named_rows(senders.lines(), naming),
     }
@@ -243,8 +262,7 @@ def write_files(report: Row, known: Collection[str], folder: str, most: int) -> 
     """Writes page, tables and numbers."""
     texts = {
         f"{name}.csv": csv_text(report[name], columns_of(name, report, known))
-        for name in TABLES
-        if name in report
+        for name in shown_in(report)
     }
     texts |= {"report.json": json_of(report), "report.html": page(report, most)}
     write_folder(folder, texts, WRITTEN)
@@ -253,12 +271,13 @@ def write_files(report: Row, known: Collection[str], folder: str, most: int) -> 
 def suite(name: str, report: Row) -> xml.Element:
     """The run as a test suite: that it ended without a fault, and that the switch conforms; where
     senders were judged, that these do."""
-    found = suite_of(name, report["fault"], None, [])
-    unlike = report["verdict"] if report["status"] else ""
-    why = [group["words"] for group in report["groups"]]
-    add_conforms(found, name, not report["fault"], unlike, why)
-    if "of_senders" in report:
-        told = report["of_senders"]
+    told: Row = report.get("of_senders", {})
+    found = suite_of(name, report["fault"] or told.get("fault", ""), None, [])
+    if is_judged(report):
+        unlike = report["verdict"] if report["status"] else ""
+        why = [group["words"] for group in report["groups"]]
+        add_conforms(found, name, not report["fault"], unlike, why)
+    if told:
         unlike = told["verdict"] if told["status"] else ""
         why = [source_words(row) for row in report["senders"] if row["amiss"]]
         add_conforms(found, name, not told["fault"], unlike, why, "senders")

@@ -5,7 +5,7 @@ from typing import Iterator
 
 from afdx_tools.conformance.grouping import firsts, of_link
 from afdx_tools.conformance.numbers import account_words, no_verdict
-from afdx_tools.conformance.page import COUNTED, PROVED, TABLES, proved_of_senders
+from afdx_tools.conformance.page import COUNTED, PROVED, proved_of_senders, shown_in
 from afdx_tools.conformance.proposals import option_words
 from afdx_tools.conformance.senders import source_words
 from afdx_tools.report.ranking import latency_text, nearest
@@ -107,7 +107,6 @@ def print_text(report: Row) -> None:
     print(f"{report['run']['title']}\n")
     for line in head_of(report):
         print(line)
-    for name, head in TABLES.items():
-        if name in report:
-            print(f"\n{head}\n{as_text(report[name])}", end="")
+    for name, head in shown_in(report).items():
+        print(f"\n{head}\n{as_text(report[name])}", end="")
     print("\n" + "\n".join((PROVED, *proved_of_senders(report), COUNTED)))

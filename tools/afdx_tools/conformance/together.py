@@ -68,6 +68,11 @@ def of_senders(sent: Sent) -> str:
     return f"Senders left the law: {findings(sent.verdict)}."
 
 
+def of_senders_alone(sent: Sent) -> str:
+    """The same where no switch was judged."""
+    return f"{of_senders(sent)} No switch was judged."
+
+
 def given(options: Options) -> Iterator[str]:
     """The options with which no answer is exact."""
     for name in EXACT:
@@ -133,7 +138,7 @@ def answers_table(report: Row) -> str:
         return ""
     told = report["of_senders"]
     rows = [
-        ("Switch", report["verdict"] or report["fault"]),
+        ("Switch", report["verdict"] or report["fault"] or "not judged"),
         ("Senders", told["verdict"] or told["fault"]),
         ("Both", told["says"]),
     ]
