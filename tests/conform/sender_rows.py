@@ -56,8 +56,10 @@ WIDE = {"switch": [TWO["switch"][0], TWO["switch"][1] | {"link": [
     *TWO["switch"][1]["link"],
     with_values(TWO["switch"][1]["link"][1], vl=3, to=["s3"]),
 ]}]}  # fmt: skip
-SLOW = {"fwd neighbour 1 rate": 10, "mid neighbour 1 rate": 10, "fwd link 1 latency": 50,
-        "mid link 1 latency": 50, "aft link 1 latency": 50}  # fmt: skip
+SLOW: dict[str, object] = {
+    "fwd neighbour 1 rate": 10, "mid neighbour 1 rate": 10, "fwd link 1 latency": 50,
+    "mid link 1 latency": 50, "aft link 1 latency": 50,
+}  # fmt: skip
 SENDER_CONFIGS = {
     "base": plain.CONFIGS["base"],
     "two": TWO_TEXT,

@@ -349,6 +349,22 @@ senders_tests() {
     tell 'senders of a replay' "$(is_status 2; says err '--senders is an option with --conform')"
 }
 
+# What s1 sends at the switch fwd, to which s2's frames come by a cable.
+senders_at_tests() {
+    local json=$judged/out/report.json
+    awk '{ $4 = 24; $2 += 13440; print }' "$judged/came.list" >"$judged/left.list"
+    launch tools/afdx-report --conform --senders --switch fwd examples/two_switches.toml \
+        "$judged/came.list" "$judged/left.list" --out "$judged/out"
+    tell 'senders at one of several switches' "$(
+        is_status 0
+        says out 'No more follows from them, since this isn'
+        wants_number "$json" '[(s["switch"], s["system"], s["sent"]) for s in r["senders"]]' \
+            "[('fwd', 's1', 2)]"
+        wants_number "$json" '[p["found"] for p in r["premises"] if p["holds"] == "no"]' \
+            "['--switch fwd']"
+    )"
+}
+
 # Recorded are what came in on A and on B, and what left on A, at first a frame that nobody sent.
 recorded_senders_tests() {
     local json=$judged/out/report.json side
@@ -411,6 +427,14 @@ elif "$program" conform --help >"$judged/help" 2>&1; then
     telling_tests
     if grep -qF -- --senders "$judged/help"; then
         senders_tests
+        sent_and_left 0 300
+        launch "$program" conform --senders --switch fwd examples/two_switches.toml \
+            "$judged/came.list"
+        if [[ $status -eq 2 ]]; then
+            skip 'senders at one of several switches' 'conform judges none'
+        else
+            senders_at_tests
+        fi
     else
         skip 'afdx-report --conform --senders' 'conform judges no senders'
     fi

@@ -164,6 +164,7 @@ class Together(unittest.TestCase):
             ({"switch": SWITCH.replace("unseen 0", "unseen 4")}, "(unseen 4)"),
             ({"sent": GOOD.replace("alone 0", "alone 1")}, "(alone 1)"),
             ({"lost": 2}, "recorders lost nothing (2 lost)"),
+            ({"options": Options(switch="fwd")}, "one switch a side (--switch fwd)"),
             ({"options": Options(start=0)}, "(--from 0)"),
             ({"options": Options(slack=5, drift=6)}, "exact (--slack 5 --drift 6)"),
             ({"options": Options(inner=1)}, "(--inner 1)"),

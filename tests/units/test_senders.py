@@ -8,7 +8,7 @@ import sys
 import unittest
 
 TESTS = os.path.join(os.path.dirname(os.path.abspath(__file__)), "..")
-sys.path[:0] = [os.path.join(TESTS, name) for name in ("lib", "conform")]
+sys.path[:0] = [os.path.join(TESTS, name) for name in ("lib", "conform", "cascades")]
 
 import rows as plain  # noqa: E402
 import tables as made  # noqa: E402
@@ -18,7 +18,7 @@ from conform import conform  # noqa: E402
 from conform_terms import Options  # noqa: E402
 from sender_made import KINDS_AMISS, amiss, is_right, right, small  # noqa: E402
 from sender_made import small_recording  # noqa: E402
-from sender_rows import SENDER_ROWS, digits, list_of  # noqa: E402
+from sender_rows import SENDER_CONFIGS, SENDER_ROWS, digits, list_of  # noqa: E402
 from sender_source import Way, further_on, step  # noqa: E402
 from senders import Senders, conform_senders, switches_of, ways_of  # noqa: E402
 
@@ -38,7 +38,8 @@ class Rows(unittest.TestCase):
 
     def test_senders_alone(self) -> None:
         for row in SENDER_ROWS:
-            found = conform_senders(BASE, list_of(row.came), None, row.words())
+            config = SENDER_CONFIGS[row.config]
+            found = conform_senders(config, list_of(row.came), None, row.words())
             self.assertEqual(found, row.answer(), row.name)
 
     def test_beside_streams(self) -> None:
@@ -75,9 +76,10 @@ class Others(unittest.TestCase):
         for row in SENDER_ROWS:
             if "--apart" in row.options:
                 continue
-            streams = conform(BASE, list_of(row.came), b"", tuple(row.options.split()))
-            beside = conform_senders(BASE, list_of(row.came), b"", row.words())
-            alone = conform_senders(BASE, list_of(row.came), None, row.words())
+            config, came = SENDER_CONFIGS[row.config], list_of(row.came)
+            streams = conform(config, came, b"", tuple(row.options.split()))
+            beside = conform_senders(config, came, b"", row.words())
+            alone = conform_senders(config, came, None, row.words())
             found = [part.out.splitlines() for part in (streams, beside, alone)]
             if row.counts:
                 found = [lines[:-1] for lines in found]

@@ -98,8 +98,10 @@ def premises(
     lost = [counts.get("recorder-lost", 0) for counts in judged.skipped]
     exact = " ".join(given(options))
     counts = {**judged.counts, "alone": sent.counts.get("alone")}
+    switch = "one" if options.switch is None else f"--switch {options.switch}"
     found = [
         Premise("the tables are admitted", admission, admission == "ok"),
+        Premise("there is one switch a side", switch, options.switch is None),
         Premise(LAW, sent.verdict or sent.fault, sent.verdict == CONFORMS),
         Premise(SWITCH, judged.verdict or judged.fault, judged.verdict == CONFORMS),
     ]
