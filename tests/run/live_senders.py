@@ -197,7 +197,7 @@ def taken_words() -> argparse.Namespace:
     )
     words.add_argument("program", metavar="PROGRAM", nargs="?")
     words.add_argument("--sender", action="append", choices=list(SENDERS), metavar="NAME")
-    words.add_argument("--seconds", type=int, default=4, choices=range(3, 61), metavar="N")
+    words.add_argument("--seconds", type=int, default=4, choices=range(4, 61), metavar="N")
     words.add_argument("--keep", metavar="FOLDER")
     given = words.parse_args()
     if given.program and not os.access(given.program, os.X_OK):
