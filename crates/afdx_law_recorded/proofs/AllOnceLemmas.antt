@@ -63,13 +63,13 @@ module _ (z : Setup) (until : ℕ) (came left : List Arrival) (place system : �
     port = port_of z.tables l.from
 
     seen : (side : Side) → z.recorded side (port_of z.tables l.from) ≡ true
-    seen side = all.recorded side place l at
+    seen side = all.recorded side place l at sends
 
     same-frames : own_frames z place came ≡ sent_among l.vl (port_of z.tables l.from) came
     unfolding own_frames
     same-frames = ap (map came_from)
         (filter-same (λ (x : Arrival). is_of place (whose z x)) (is_own l.vl (port_of z.tables l.from)) came
-        (λ x. whose-same z.tables all.lawful place l at sends z.recorded seen x))
+        (λ x. whose-same z.tables all.lawful place l at sends z.among z.recorded seen x))
 
     port-same : (rule_of z.tables l).port ≡ port_of z.tables l.from
     unfolding rule_of
@@ -122,14 +122,14 @@ module _ (z : Setup) (until : ℕ) (came left : List Arrival) (place system : �
         };
         between = all.exact.between;
       };
-      bag = (link-row z.tables all.lawful place l at sends z.recorded seen).bag_ms;
+      bag = (link-row z.tables all.lawful place l at sends z.among z.recorded seen).bag_ms;
     }
 
     is-rule : IsRule (rule_of z.tables l)
     unfolding rule_of
     is-rule =
-        let row = link-row z.tables all.lawful place l at sends z.recorded seen in
-        let from = sender z.tables all.lawful place l at sends z.recorded seen in
+        let row = link-row z.tables all.lawful place l at sends z.among z.recorded seen in
+        let from = sender z.tables all.lawful place l at sends z.among z.recorded seen in
         let is = AllByRecursion-slice_get (IsSystem z.tables.profile) z.tables.systems l.from from.row
         all.lawful.systems.each from.there in
         let same = port_is z.tables l.from from.row from.there in
@@ -145,7 +145,7 @@ module _ (z : Setup) (until : ℕ) (came left : List Arrival) (place system : �
 
     way-to : IsWayTo source stream (way_at z.tables l s.port)
     way-to =
-        let row = link-row z.tables all.lawful place l at sends z.recorded seen in
+        let row = link-row z.tables all.lawful place l at sends z.among z.recorded seen in
         record {
           link = one-link;
           rule = is-rule;
@@ -157,11 +157,11 @@ module _ (z : Setup) (until : ℕ) (came left : List Arrival) (place system : �
               let time = no-more-than (byte_ns s) (system-time z.tables system s all.lawful there) in
               omega (arith, line, time);
           inner = all.exact.inner;
-          near = λ bytes. all.near place system bytes l s at there goes;
+          near = λ bytes. all.near place system bytes l s at there goes sends;
         }
 
     shown : (side : Side) → IsShown stream (own l.vl side came) (left_of l.vl side s.port left)
-    shown side = told.streams side place system l s at there goes
+    shown side = told.streams side place system l s at there goes sends
 
     came-once : (heard : List Incoming) → AreHeard l.vl (λ side. left_of l.vl side s.port left) heard →
         EachCameOnce z until came left place system l s heard

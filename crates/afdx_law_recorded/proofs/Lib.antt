@@ -10,3 +10,4 @@ pub mod NeededLemmas
 pub mod SwitchLemmas
 pub mod AllOnceLemmas
 pub mod WholeLemmas
+pub mod MergeLemmas

@@ -24,9 +24,9 @@ use Rattle.afdx_conform.specs.Headline.{GoByTime}
 use Rattle.afdx_lawful.specs.Accepted.{AreNamed, ComeUpTo, arrival_of, arrivals_of}
 use Rattle.afdx_lawful.specs.Sources.{Came, Source, on_side}
 use Rattle.afdx_senders.specs.Setups.{came_from, is_of}
-use Rattle.afdx_senders.specs.Sites.{Recorded, is_sent_at, is_site, named_as, sent_as, sent_by, sent_in, source_of}
+use Rattle.afdx_senders.specs.Sites.{Among, Recorded, has_link, is_sent_at, is_site, named_as, sent_as, sent_by, sent_in, source_of}
 use Rattle.afdx_senders.specs.declared.sites.SourceOf.{SourceOf}
-use Rattle.afdx_senders.specs.declared.sites.SourceOf.TheVariants.{Elsewhere, Nobody}
+use Rattle.afdx_senders.specs.declared.sites.SourceOf.TheVariants.{Elsewhere, Nobody, Unknown}
 use Rattle.afdx_senders.specs.declared.sites.SourceOf.TheVariants.{Source as OfSource}
 use Rattle.afdx_senders.proofs.SiteLemmas.{sent_at}
 use Rattle.afdx_senders.proofs.TermLemmas.{port_is}
@@ -47,7 +47,8 @@ row-there (x ∷ xs) zero less = (x, refl)
 row-there (x ∷ xs) (suc i) less = row-there xs i (omega (arith, less))
 
 module _ (t : Rows) (lawful : IsLawfulSwitch t) (place : ℕ) (l : LinkRow) (at : slice_get t.links place ≡ Some l)
-    (sends : l.from < t.own) (recorded : Recorded) (seen : (side : Side) → recorded side (port_of t l.from) ≡ true)
+    (sends : l.from < t.own) (among : Among) (recorded : Recorded)
+    (seen : (side : Side) → recorded side (port_of t l.from) ≡ true)
   where
     pub link-row : IsLinkUpTo jitter_from_any (length t.systems) l
     link-row = AllByRecursion-slice_get (IsLinkUpTo jitter_from_any (length t.systems)) t.links place l
@@ -90,11 +91,11 @@ module _ (t : Rows) (lawful : IsLawfulSwitch t) (place : ℕ) (l : LinkRow) (at 
     -- of a frame that names the link
     named-own : (side : Side) (port : ℕ) (vl : VlId) → vl.0 ≡ l.vl → (site_is here : Bool) →
         is_site t recorded side port ≡ site_is → (port_of t l.from == port) ≡ here →
-        is_its (if site_is then sent_by t port vl else Nobody) ≡ here
+        is_its (if site_is then sent_by t among port vl else Nobody) ≡ here
     named-own side port vl named true here known is =
         let found : link_of t.links vl.0 ≡ Some place =
         ap (link_of t.links) named ∙ (each_row-found t lawful).by_vl place l at in
-        ap is_its (sent_at t port vl place l here found at (sent-here port ∙ is)) ∙ by here
+        ap is_its (sent_at t among port vl place l here found at (sent-here port ∙ is)) ∙ by here
       where
         by : (b : Bool) → is_its (if b then OfSource place else Elsewhere) ≡ b
         by true = eq-eqb place place refl
@@ -123,24 +124,28 @@ module _ (t : Rows) (lawful : IsLawfulSwitch t) (place : ℕ) (l : LinkRow) (at 
         by false = refl
 
     other-found : (port : ℕ) (vl : VlId) (o : Option ℕ) → link_of t.links vl.0 ≡ o → (vl.0 == l.vl) ≡ false →
-        is_its (sent_in t port o) ≡ false
-    other-found port vl None found other = refl
+        is_its (sent_in t among port vl o) ≡ false
+    other-found port vl None found other = by (has_link among vl.0)
+      where
+        by : (b : Bool) → is_its (if b then Elsewhere else Unknown) ≡ false
+        by true = refl
+        by false = refl
     other-found port vl (Some k) found other = other-row port k vl (slice_get t.links k) refl found other
 
     named-other : (side : Side) (port : ℕ) (vl : VlId) (site_is : Bool) → (vl.0 == l.vl) ≡ false →
-        is_its (if site_is then sent_by t port vl else Nobody) ≡ false
+        is_its (if site_is then sent_by t among port vl else Nobody) ≡ false
     unfolding sent_by
     named-other side port vl true other = other-found port vl (link_of t.links vl.0) refl other
     named-other side port vl false other = refl
 
     by-name : (x : Arrival) (o : Option VlId) →
-        is_its (named_as t recorded x o)
+        is_its (named_as t among recorded x o)
         ≡ (option_map_or (λ n. n.0 == l.vl) o false && (port_of t l.from == x.port))
     by-name x None = refl
     by-name x (Some vl) = by (vl.0 == l.vl) refl
       where
         by : (b : Bool) → (vl.0 == l.vl) ≡ b →
-            is_its (if is_site t recorded x.side x.port then sent_by t x.port vl else Nobody)
+            is_its (if is_site t recorded x.side x.port then sent_by t among x.port vl else Nobody)
             ≡ (b && (port_of t l.from == x.port))
         by true e = named-own x.side x.port vl (eqb-true vl.0 l.vl e) (is_site t recorded x.side x.port)
             (port_of t l.from == x.port) refl refl
@@ -149,7 +154,7 @@ module _ (t : Rows) (lawful : IsLawfulSwitch t) (place : ℕ) (l : LinkRow) (at 
     abbrev is_sent : Arrival → Bool
     is_sent x = names l.vl x.bytes && (port_of t l.from == x.port)
 
-    pub whose-same : (x : Arrival) → is_of place (source_of t recorded x) ≡ is_sent x
+    pub whose-same : (x : Arrival) → is_of place (source_of t among recorded x) ≡ is_sent x
     unfolding source_of names
     whose-same x = by-name x (link_named_by x.bytes)
 

@@ -209,8 +209,8 @@ judged = record {
   serving = is-serving;
   exact = record { slack = refl; between = refl; drift = refl; inner = refl; asked = refl; start = refl };
   judged = λ place l at sends. refl;
-  recorded = λ side place l at. refl;
-  near = λ place system bytes l s at there goes.
+  recorded = λ side place l at sends. refl;
+  near = λ place system bytes l s at there goes sends.
       at-receiver (λ (k : ℕ) (m : LinkRow) (r : SystemRow).
       apart_by (terms_at heard_tables heard_setup.recorded heard_setup.asked k m) heard_setup.asked.given bytes
       ≤ left_by (way_at heard_tables m r.port) bytes)
@@ -238,7 +238,7 @@ told : NothingIsTold heard_setup 2005760 all_came all_left
 told = record {
   by_time = (omega arith, (omega arith, (omega arith, (omega arith, (omega arith, tt)))));
   no_line = no-line;
-  streams = λ side place system l s at there goes.
+  streams = λ side place system l s at there goes sends.
       at-receiver (λ (k : ℕ) (m : LinkRow) (r : SystemRow).
       IsShown (stream_at heard_tables heard_setup.asked.by 2005760 m r.port) (own m.vl side all_came)
       (left_of m.vl side r.port all_left)) (shown side) place system l s at there goes;

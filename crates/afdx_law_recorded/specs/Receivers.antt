@@ -1,6 +1,6 @@
 -- One link at one of its receivers, by both networks, as it was recorded: what is made of what left
 -- the receiver's port on both sides. Lists have the newest first, those of messages the oldest.
-use Rattle.std.specs.Prelude.{◌≡◌, ℕ, ◌*◌, ◌≤◌, nat_le, if◌then◌else◌, Bool, Result, Ok, Err, List, [], ◌∷◌, ◌++◌}
+use Rattle.std.specs.Prelude.{◌≡◌, ℕ, ◌*◌, ◌≤◌, nat_le, nat_lt, if◌then◌else◌, Bool, Result, Ok, Err, List, [], ◌∷◌, ◌++◌}
 use Rattle.std.specs.Prelude.{Some, filter, length, map, reverse, slice_get}
 use Rattle.afdx_frame.specs.Carried.{Carried, carried_by}
 use Rattle.afdx_frame.specs.Parts.{number_of_frame}
@@ -52,6 +52,29 @@ pub record AreHeard (vl : ℕ) (left : Side → List Gone) (heard : List Incomin
   pub sides : (side : Side) →
       filter (λ f. is_side f.side side) heard ≡ map (heard_as vl side) (left side)
   pub by_time : ComeByTime heard
+
+-- A frame is put among others by its time, after those of the same time.
+abbrev pub put_by_time : Incoming → List Incoming → List Incoming
+put_by_time x [] = x ∷ []
+put_by_time x (y ∷ past) =
+    if nat_lt x.time y.time then y ∷ put_by_time x past else x ∷ y ∷ past
+
+-- what comes by both sides, merged by time, at one time that of the first of both lists first
+abbrev pub merged_by_time : List Incoming → List Incoming → List Incoming
+merged_by_time first [] = first
+merged_by_time first (x ∷ past) = put_by_time x (merged_by_time first past)
+
+abbrev pub heard_of : (vl : ℕ) → (left : Side → List Gone) → List Incoming
+heard_of vl left =
+    merged_by_time (map (heard_as vl A) (left A)) (map (heard_as vl B) (left B))
+
+-- Where what left goes by time on each side, that comes to the receiver by both: what left, merged
+-- by time, at one time that of side A first.
+abbrev pub DeparturesMerge : Type 0
+DeparturesMerge =
+    (vl : ℕ) (left : Side → List Gone) →
+    ((side : Side) → ComeByTime (map (heard_as vl side) (left side))) →
+    AreHeard vl left (heard_of vl left)
 
 -- What the tables leave for copies is no more than each of the link's ways does.
 abbrev pub LeastIsLeft : Type 0

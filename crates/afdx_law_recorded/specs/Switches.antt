@@ -59,9 +59,9 @@ pub record IsExactFromReset (by : Leeway) : Type 0 where
   pub asked : by.asked ≡ 0
   pub start : by.start ≡ None
 
--- The switch has lawful tables that keep admission; all its systems are judged as senders and were
--- recorded on both sides, exactly; and copies may be sent no further apart than the way of each
--- receiver leaves them.
+-- The switch has lawful tables that keep admission. All its systems that send are judged as senders
+-- and were recorded on both sides, exactly; and of their links copies may be sent no further apart
+-- than the way of each receiver leaves them.
 pub record AllAreJudged (z : Setup) : Type 0 where
   pub lawful : IsLawfulSwitch z.tables
   pub serving : IsServing z.tables
@@ -72,16 +72,18 @@ pub record AllAreJudged (z : Setup) : Type 0 where
       z.is_judged place ≡ true
   pub recorded : (side : Side) (place : ℕ) (l : LinkRow) →
       slice_get z.tables.links place ≡ Some l →
+      l.from < z.tables.own →
       z.recorded side (port_of z.tables l.from) ≡ true
   pub near : (place system bytes : ℕ) (l : LinkRow) (s : SystemRow) →
       slice_get z.tables.links place ≡ Some l →
       slice_get z.tables.systems system ≡ Some s →
       is_to system l ≡ true →
+      l.from < z.tables.own →
       apart_by (terms_at z.tables z.recorded z.asked place l) z.asked.given bytes
       ≤ left_by (way_at z.tables l s.port) bytes
 
--- Of what came, by time, no line is told of any sender; of no stream at a receiver's port anything
--- is found, of what came and left, and nothing is open.
+-- Of what came, by time, no line is told of any sender; and of no stream of their links, at a
+-- receiver's port, anything is found of what came and left, and nothing is open.
 pub record NothingIsTold (z : Setup) (until : ℕ) (came left : List Arrival) : Type 0 where
   pub by_time : AreUpTo z.asked.until (map (λ x. x.time) came)
   pub no_line : all_lines z came ≡ []
@@ -89,6 +91,7 @@ pub record NothingIsTold (z : Setup) (until : ℕ) (came left : List Arrival) : 
       slice_get z.tables.links place ≡ Some l →
       slice_get z.tables.systems system ≡ Some s →
       is_to system l ≡ true →
+      l.from < z.tables.own →
       IsShown (stream_at z.tables z.asked.by until l s.port) (own l.vl side came)
       (left_of l.vl side s.port left)
 

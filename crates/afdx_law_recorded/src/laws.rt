@@ -3,8 +3,8 @@
 ghost use Rattle.afdx_law_recorded.specs.Examples.{CutIsMet, EachIsNeeded, PremisesAreMet};
 ghost use Rattle.afdx_law_recorded.specs.OneSide.{SentIsWhatLeft};
 ghost use Rattle.afdx_law_recorded.specs.Pairs.{QuietIsInPairs, QuietIsNumbered, UncutIsInPairs};
-ghost use Rattle.afdx_law_recorded.specs.Receivers.{BothCarrySame, EachCarriesOne, LeastIsLeft};
-ghost use Rattle.afdx_law_recorded.specs.Receivers.{RecordedIsToldOnce};
+ghost use Rattle.afdx_law_recorded.specs.Receivers.{BothCarrySame, DeparturesMerge, EachCarriesOne};
+ghost use Rattle.afdx_law_recorded.specs.Receivers.{LeastIsLeft, RecordedIsToldOnce};
 ghost use Rattle.afdx_law_recorded.specs.Switches.{AllComeOnce};
 ghost use Rattle.afdx_law_recorded.specs.Whole.{WholeIsMet};
 
@@ -42,6 +42,12 @@ pub fn recorded_is_told_once()
 /// time.
 pub fn all_come_once()
     ensures { AllComeOnce }
+{}
+
+/// What left a receiver's port on both sides, by time on each, can be merged by time, at one time
+/// that of side A first: so there is something that comes to the receiver.
+pub fn departures_merge()
+    ensures { DeparturesMerge }
 {}
 
 /// What the tables leave for how far apart copies may be sent is no more than each way of the link
