@@ -79,6 +79,14 @@ class Ends(unittest.TestCase):
             found = Sites(names).between(block, block.starts + 6, blanks)
             self.assertEqual(found.tolist(), [names.index(name) for _, name, _ in places])
 
+    def test_ports_at_the_begins_of_lines(self) -> None:
+        short = [f"{port} 0300" for port in (*range(25), "00", "07", 99)]
+        for other in ("", "123 4", "7", "12", "a", "1a ", " ", "12a", "1\t", "1234567890 "):
+            lines = [*short, other]
+            block = Block("".join(f"{line}\n" for line in lines).encode())
+            for found, wanted in zip(block.ports(block.starts), block.numbers(block.starts)):
+                self.assertEqual(found.tolist(), wanted.tolist(), other)
+
     def test_other_names_are_unknown(self) -> None:
         for name in ("fw", "fwdx", "", "A" * 17, "A" * 15):
             block = Block(f"A {name} 3\n".encode())

@@ -9,6 +9,7 @@ try:
 except ModuleNotFoundError:
     raise unittest.SkipTest("there is no package numpy") from None
 
+from afdx_tools.replay.eights import places_of
 from afdx_tools.replay.lines import PADDING, Block
 from afdx_tools.replay.sites import LONGEST, names_at
 
@@ -34,9 +35,31 @@ class Numbers(unittest.TestCase):
         wanted = [number_in(line.encode("latin-1")) for line in lines]
         self.assertEqual(list(zip(values.tolist(), (ends - block.starts).tolist())), wanted)
 
+    def test_numbers_of_one_length(self) -> None:
+        dice = random.Random(3)
+        for length in (*LENGTHS, 25):
+            lines = ["".join(dice.choices("0123456789", k=length)) + "/" for _ in range(9)]
+            block = Block("".join(f"{line}\n" for line in lines).encode())
+            values, ends = block.numbers(block.starts)
+            self.assertEqual(values.tolist(), [number_in(line.encode())[0] for line in lines])
+            self.assertEqual((ends - block.starts).tolist(), [length] * 9)
+
     def test_a_number_that_the_text_ends_in(self) -> None:
         values, _ = Block(b"12").numbers(np.array([0, 2]))
         self.assertEqual(values.tolist(), [12, 0])
+
+
+class Places(unittest.TestCase):
+    """Where a byte stands."""
+
+    def test_places_of_a_byte(self) -> None:
+        dice = random.Random(4)
+        for share in (0, 1, 20, 200):
+            for size in (0, 1, 7, 8, 9, 64, 1000):
+                text = bytes(10 if dice.randrange(200) < share else 97 for _ in range(size))
+                found = places_of(np.frombuffer(text + PADDING, np.uint8), size, 10)
+                wanted = [place for place, byte in enumerate(text) if byte == 10]
+                self.assertEqual(found.tolist(), wanted)
 
 
 class Names(unittest.TestCase):

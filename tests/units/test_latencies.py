@@ -61,20 +61,20 @@ class Latencies(unittest.TestCase):
         self.counting = counted(LISTED, WRITTEN)
 
     def test_from_arrival_to_the_end_of_the_slot(self) -> None:
-        paths = self.counting.paths()
+        paths = self.counting.paths
         places = [(one.link, one.port, one.side) for one in paths]
         self.assertEqual(places, [(10, 3, 0), (20, 3, 0)])
         self.assertEqual(paths[0].latencies.tolist(), [67_200])
         self.assertEqual(paths[1].latencies.tolist(), [133_400, 191_600])
 
     def test_late_is_over_the_configured_100_us(self) -> None:
-        self.assertEqual([one.late for one in self.counting.paths()], [0, 2])
+        self.assertEqual([one.late for one in self.counting.paths], [0, 2])
 
     def test_just_in_time_is_not_late(self) -> None:
         counting = counted(LISTED[:1], "V 1 A accept\nD 1 1100000 A 3\nM 1100000 disp 10 00\n")
-        self.assertEqual(counting.paths()[0].late, 0)
+        self.assertEqual(counting.paths[0].late, 0)
         counting = counted(LISTED[:1], "V 1 A accept\nD 1 1100001 A 3\nM 1100001 disp 10 00\n")
-        self.assertEqual(counting.paths()[0].late, 1)
+        self.assertEqual(counting.paths[0].late, 1)
 
     def test_by_share_of_the_configured_one(self) -> None:
         # 67.2 % is in the 14th twentieth, and both others are over all of it

@@ -30,18 +30,18 @@ class UsualGaps(unittest.TestCase):
     """What nearly all gaps between frames don't exceed."""
 
     def test_the_two_longest_do_not_count(self) -> None:
-        self.assertEqual(usual_gap(np.array([0, 10, 20, 30, 1000, 2000])), 10)
-        self.assertEqual(usual_gap(np.array([0, 10, 20, 30, 1000, 2000, 3000])), 970)
+        self.assertEqual(usual_gap(np.diff([0, 10, 20, 30, 1000, 2000])), 10)
+        self.assertEqual(usual_gap(np.diff([0, 10, 20, 30, 1000, 2000, 3000])), 970)
 
     def test_nor_the_longest_twentieth(self) -> None:
         gaps = [100] * 95 + [5000] * 5
-        self.assertEqual(usual_gap(np.cumsum([0, *gaps])), 100)
+        self.assertEqual(usual_gap(np.diff(np.cumsum([0, *gaps]))), 100)
         gaps = [100] * 94 + [5000] * 6
-        self.assertEqual(usual_gap(np.cumsum([0, *gaps])), 5000)
+        self.assertEqual(usual_gap(np.diff(np.cumsum([0, *gaps]))), 5000)
 
     def test_of_few(self) -> None:
-        self.assertEqual(usual_gap(np.array([0])), 0)
-        self.assertEqual(usual_gap(np.array([0, 7])), 7)
+        self.assertEqual(usual_gap(np.diff([0])), 0)
+        self.assertEqual(usual_gap(np.diff([0, 7])), 7)
 
 
 class SilentTimes(unittest.TestCase):

@@ -97,14 +97,21 @@ def cell(value: object) -> str:
     return shown(str(value))
 
 
-def is_whole(values: Sequence) -> bool:
-    """Has a column whole numbers alone? Most have."""
-    return {*map(type, values)} == {int}
+def kinds_of(values: Sequence) -> set[type]:
+    """The types of a column's values; most columns have one."""
+    return {*map(type, values)}
 
 
 def cells_of(values: Sequence) -> list[str]:
     """The values of a column as they stand in a table."""
-    return list(map(str, values)) if is_whole(values) else list(map(cell, values))
+    kinds = kinds_of(values)
+    if kinds == {int}:
+        return list(map(str, values))
+    if kinds == {float}:
+        return list(map(percent, values))
+    if kinds == {str} and "".join(values).isprintable():
+        return list(values)
+    return list(map(cell, values))
 
 
 def link_words(row: Row) -> str:
@@ -157,7 +164,12 @@ def quoted(value: str) -> str:
 
 def plains(values: Sequence) -> list[str]:
     """The values of a column as they stand in a CSV file."""
-    return list(map(str, values)) if is_whole(values) else list(map(plain, values))
+    kinds = kinds_of(values)
+    if kinds <= {int, float}:
+        return list(map(str, values))
+    if kinds == {str}:
+        return list(map(quoted, values))
+    return list(map(plain, values))
 
 
 def csv_text(rows: Sequence[Row], columns: Sequence[str] = ()) -> str:
@@ -169,13 +181,15 @@ def csv_text(rows: Sequence[Row], columns: Sequence[str] = ()) -> str:
 
 def over_time(arrivals: Row) -> list[Row]:
     """The arrivals of each link and side, a column for each step of time, by its begin in ns."""
-    start, width = arrivals["start_ns"], arrivals["step_ns"]
+    start, width, rows = arrivals["start_ns"], arrivals["step_ns"], arrivals["links"]
+    most = max((len(row["counts"]) for row in rows), default=0)
+    begins = [str(start + n * width) for n in range(most)]
     return [
         {
             **{name: row[name] for name in ("link", "message", "side") if name in row},
-            **{str(start + n * width): count for n, count in enumerate(row["counts"])},
+            **dict(zip(begins, row["counts"])),
         }
-        for row in arrivals["links"]
+        for row in rows
     ]
 
 

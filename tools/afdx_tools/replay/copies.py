@@ -5,10 +5,12 @@ from dataclasses import dataclass
 
 import numpy as np
 
-from afdx_tools.replay.counting import Counting, order_of
+from afdx_tools.replay.counting import Counting
 from afdx_tools.replay.events import ACCEPT, DELIVERED
+from afdx_tools.replay.grouping import grouped, order_of
 from afdx_tools.replay.silence import Silences
-from afdx_tools.replay.traffic import NUMBERED, grouped, of_kinds
+from afdx_tools.replay.slots import Slots
+from afdx_tools.replay.traffic import NUMBERED, of_kinds
 
 HALF_ROUND = 127  # BAGs in which the numbers of a link go half round
 NEVER = np.iinfo(np.int64).max
@@ -83,6 +85,15 @@ def half_rounds(counting: Counting) -> np.ndarray:
     return np.array([*bags, 0], np.int64) * HALF_ROUND * 1_000_000
 
 
+def middle_of(values: np.ndarray) -> float:
+    """The one in the middle, or the mean of the two there."""
+    half = len(values) // 2
+    if len(values) % 2:
+        return float(np.partition(values, half)[half])
+    low, high = np.partition(values, (half - 1, half))[half - 1 : half + 1]
+    return (float(low) + float(high)) / 2
+
+
 def later_on_b(counting: Counting, other: np.ndarray) -> tuple[np.ndarray, np.ndarray]:
     """The frames of side A that have a copy on side B, and by how many ns that came later."""
     at = np.flatnonzero((other > 0) & (counting.listing.side == 0))
@@ -97,8 +108,8 @@ def pairs_of(counting: Counting) -> np.ndarray:
     lines = of_kinds(counting, (ACCEPT,))
     other = paired(counting, lines, 0)
     at, apart = later_on_b(counting, other)
-    medians = [np.median(apart[each]) for each in grouped(counting.place[at]).values()]
-    shift = int(np.median(medians)) if medians else 0
+    medians = [middle_of(apart[each]) for each in grouped(counting.place[at]).values()]
+    shift = int(middle_of(np.array(medians))) if medians else 0
     return paired(counting, lines, shift) if abs(shift) > LEAST_OFFSET else other
 
 
@@ -108,7 +119,7 @@ def alone_of(counting: Counting, other: np.ndarray, silences: Silences) -> np.nd
     the copy may lie beyond it, by SkewMax or twice the greatest skew that came."""
     listing, place = counting.listing, counting.place
     _, apart = later_on_b(counting, other)
-    shift = int(np.median(apart)) if len(apart) else 0
+    shift = int(middle_of(apart)) if len(apart) else 0
     accepted = of_kinds(counting, (ACCEPT,))
     single = np.zeros(listing.lines + 1, bool)
     single[accepted[other[accepted] == 0]] = True
@@ -170,11 +181,13 @@ def greatest_by_link(
 
 def skews_asked(counting: Counting, places: np.ndarray, ports: np.ndarray) -> np.ndarray:
     """SkewMax of these links in their rows at the switches of these ports."""
-    config, keys = counting.config, places.astype(np.int64) * counting.ports + ports
-    found, which = np.unique(keys, return_inverse=True)
-    skews = [config.skew_at(counting.vls[key // counting.ports], key % counting.ports)
-             for key in found.tolist()]  # fmt: skip
-    return np.array(skews, np.int64)[which]
+    keys = places * np.int32(counting.ports) + ports
+    counts = np.bincount(keys)
+    table = np.zeros(len(counts), np.int64)
+    for key in np.flatnonzero(counts).tolist():
+        vl, port = counting.vls[key // counting.ports], key % counting.ports
+        table[key] = counting.config.skew_at(vl, port)
+    return table[keys]
 
 
 def skews_at_inputs(counting: Counting, other: np.ndarray) -> dict[int, Skew]:
@@ -190,17 +203,9 @@ def skews_at_inputs(counting: Counting, other: np.ndarray) -> dict[int, Skew]:
 def copies_at_receivers(counting: Counting, other: np.ndarray) -> tuple[np.ndarray, np.ndarray]:
     """The copies that left a port after, in the list, their frame's copy of the other side, and
     those that left the same port of the other switch; ports with a system alone."""
-    events, count = counting.events, counting.ports
-    at = np.flatnonzero(counting.ended)
-    keys = events.line[at].astype(np.int64) * count + events.port[at]
-    order = np.argsort(keys, kind="stable")
-    at, keys = at[order], keys[order]
-    partner = other[events.line[at]]
-    second = np.flatnonzero((partner > 0) & (partner < events.line[at]))
-    wanted = partner[second].astype(np.int64) * count + events.port[at[second]]
-    place = np.minimum(np.searchsorted(keys, wanted), max(len(keys) - 1, 0))
-    there = keys[place] == wanted if len(keys) else np.zeros(0, bool)
-    return at[second[there]], at[place[there]]
+    slots = Slots(counting, np.flatnonzero(counting.ended))
+    second = np.flatnonzero((other > 0) & (other < np.arange(len(other))))
+    return slots.pairs(second, other[second])
 
 
 def skews_at_receivers(counting: Counting, mine: np.ndarray, its: np.ndarray) -> dict[int, Skew]:
@@ -240,7 +245,7 @@ def offset_of(system: str, apart: np.ndarray) -> Offset:
     tenth = max(len(apart) // 10, 1)
     ranks = (len(apart) // 4, (len(apart) - 1) // 2, (3 * len(apart)) // 4)
     low, median, high = (int(value) for value in np.partition(apart, ranks)[list(ranks)])
-    begin, end = (int(np.median(part)) for part in (apart[:tenth], apart[-tenth:]))
+    begin, end = (int(middle_of(part)) for part in (apart[:tenth], apart[-tenth:]))
     return Offset(system, len(apart), low, median, high, begin, end)
 
 

@@ -14,6 +14,7 @@ import numpy as np
 
 from afdx_tools.config import MOST_PORTS, Config
 from afdx_tools.replay.events import ACCEPT, FATES, LEFT, LOST, NOT_YET, OLD, Events
+from afdx_tools.replay.grouping import ByKey, Groups, is_ascending, narrowed
 from afdx_tools.replay.listing import NO_LINK, Listing
 
 WIRE_EXTRA = 20  # bytes that a frame takes on the wire beside its own
@@ -24,8 +25,8 @@ SHARES = (500, 990, 999)  # of a thousand: the percentiles 50, 99 and 99.9 of la
 
 @dataclass(frozen=True)
 class Path:
-    """The copies of a link that left one port of one side: their latencies in ns, ascending, and
-    the first copy (its place in the events) that had the greatest."""
+    """The copies of a link that left one port of one side: their latencies in ns, ascending, the
+    first copy (its place in the events) that had the greatest, and what is `asked` of them."""
 
     link: int
     port: int
@@ -33,6 +34,7 @@ class Path:
     latencies: np.ndarray
     worst: int
     late: int
+    asked: int = 0
 
     def rank(self, share: int) -> int:
         """The least latency that so many of a thousand copies don't exceed."""
@@ -84,23 +86,39 @@ class Counting:
         index = np.full(MOST_LINK + 1, len(self.order), np.int32)  # NO_LINK is the last one
         index[self.order] = range(len(self.order))
         self.place = index[listing.link]  # of each line its link's place in `vls`
+        self.sent_on = self.place * np.int32(2) + listing.side  # and that of its link and side
         self.arrived = np.flatnonzero(events.verdict != NOT_YET)
+        self.verdicts = events.verdict[self.arrived]
         self.span()
         self.links = self.place[events.line]  # of each copy
         self.sides = listing.side[events.line]
+        self.places = self.links * np.int32(self.ports) + events.port  # of its link and port
         self.left = events.fate == FATES.index(LEFT)
+        self.all_left = bool(self.left.all())
         self.latency = events.time - events.since
+        self.lengths = listing.length[events.line]
         self.configured, self.promised = self.asked()
         self.late = self.left & (self.latency > self.configured)
         # of each copy that left: it went to a system; and from end to end
-        cables = np.isin(events.port, list(config.cables))
-        self.ended = self.left & ~cables if cables.any() else self.left
+        self.ended = self.left & ~self.with_cable[events.port] if config.cables else self.left
         self.whole = events.time - listing.time[events.line] if config.several else self.latency
 
-    @property
+    @functools.cached_property
+    def arrived_by_link(self) -> ByKey:
+        """The lines that arrived by link and side."""
+        return ByKey(self.sent_on[self.arrived], self.arrived)
+
+    @functools.cached_property
     def ports(self) -> int:
         """More than the number of any port."""
         return MOST_PORTS * max(len(self.config.names), 1)
+
+    @functools.cached_property
+    def with_cable(self) -> np.ndarray:
+        """Of each port: does a cable go from there to another switch?"""
+        found = np.zeros(self.ports, bool)
+        found[list(self.config.cables)] = True
+        return found
 
     def asked(self) -> tuple[np.ndarray, np.ndarray]:
         """Of each copy the latency that is configured at its switch, and that of its link's way to
@@ -117,7 +135,7 @@ class Counting:
                 rows[at[vl], list(row.ports)] = row.latency_ns
         for vl, port in config.several.ways:
             ways[at[vl], port] = config.latency_to(vl, port)
-        return rows[self.links, self.events.port], ways[self.links, self.events.port]
+        return rows.ravel()[self.places], ways.ravel()[self.places]
 
     def span(self) -> None:
         """The first and the last time of the run."""
@@ -129,7 +147,7 @@ class Counting:
     def frames_by(self, keys: np.ndarray, count: int) -> np.ndarray:
         """For each key the arrivals by verdict; `keys` has one for each line of the list."""
         words = len(self.events.verdicts.names)
-        return tally(keys[self.arrived], self.events.verdict[self.arrived], count, words)
+        return tally(keys[self.arrived], self.verdicts, count, words)
 
     def came_by(self, keys: np.ndarray, count: int) -> np.ndarray:
         """The same with what cables brought to further switches."""
@@ -142,56 +160,73 @@ class Counting:
 
     def ends_by(self, keys: np.ndarray, count: int) -> np.ndarray:
         """For each key the copies by what their receivers did."""
-        known = self.events.end != NOT_YET
-        return tally(keys[known], self.events.end[known], count, len(self.events.ends.names))
+        ends, known = self.events.end, self.events.end != NOT_YET
+        if not known.all():
+            keys, ends = keys[known], ends[known]
+        return tally(keys, ends, count, len(self.events.ends.names))
 
     def ended_by(self, keys: np.ndarray, count: int) -> np.ndarray:
         """For each key the copies that left to a system."""
-        return np.bincount(keys[self.ended], minlength=count)
+        return np.bincount(keys if self.ended.all() else keys[self.ended], minlength=count)
 
     def late_by(self, keys: np.ndarray, count: int) -> np.ndarray:
         """For each key the copies that took longer than their link's configured latency."""
         return np.bincount(keys[self.late], minlength=count)
 
-    def paths(self, is_whole: bool = False) -> list[Path]:
-        """The latencies of each link at each port of each side, in that order; those from end to
-        end where they are `is_whole`."""
-        at = np.flatnonzero(self.ended if is_whole else self.left)
-        latency = (self.whole if is_whole else self.latency)[at]
-        asked = (self.promised if is_whole else self.configured)[at]
-        keys = (self.links[at].astype(np.int64) * self.ports + self.events.port[at]) * 2
-        keys += self.sides[at]
-        order = order_of(keys)
-        keys, latency, late = keys[order], latency[order], (latency > asked)[order]
-        bounds = np.flatnonzero(np.diff(keys, prepend=-1, append=-1)).tolist()
-        paths = []
-        for begin, end in zip(bounds[:-1], bounds[1:]):
-            seen, key = latency[begin:end], int(keys[begin])
-            count = int(late[begin:end].sum())
-            worst = int(at[order[begin + np.argmax(seen)]])
-            link, port = self.vls[key // 2 // self.ports], key // 2 % self.ports
-            paths.append(Path(link, port, key % 2, np.sort(seen), worst, count))
-        return paths
+    @functools.cached_property
+    def paths(self) -> list[Path]:
+        """The latencies of each link at each port of each side, in that order."""
+        return self.paths_of(np.flatnonzero(self.left), self.latency, self.configured)
+
+    @functools.cached_property
+    def ways(self) -> list[Path]:
+        """Those from end to end."""
+        if self.config.several is None:
+            return self.paths
+        return self.paths_of(np.flatnonzero(self.ended), self.whole, self.promised)
+
+    def paths_of(self, at: np.ndarray, latency: np.ndarray, asked: np.ndarray) -> list[Path]:
+        """The latencies of these copies, of which so much is asked."""
+        groups = Groups(self.places[at] * np.int32(2) + self.sides[at])
+        at = at[groups.order]
+        latency = narrowed(latency)[at]
+        return [
+            self.path(key, at[begin:end], latency[begin:end], int(asked[at[begin]]))
+            for key, begin, end in groups.parts()
+        ]
+
+    def path(self, key: int, at: np.ndarray, latencies: np.ndarray, asked: int) -> Path:
+        """One of them; `at` are its copies, whose latencies are put in order."""
+        link, port = self.vls[key // 2 // self.ports], key // 2 % self.ports
+        worst = int(at[latencies.argmax()])
+        latencies.sort()
+        late = len(latencies) - int(latencies.searchsorted(asked, "right"))
+        return Path(link, port, key % 2, latencies, worst, late, asked)
 
     @functools.cached_property
     def queues(self) -> tuple[Steps, list[Queue]]:
         """Each output port of each side to which copies came, and the steps of its loads."""
         steps = steps_of(self.first, max(self.last - 1, self.first), MOST_STEPS)
-        keys = (self.events.port * 2 + self.sides).astype(np.uint16)
-        order = np.argsort(keys, kind="stable")
-        parts = np.split(order, np.flatnonzero(np.diff(keys[order])) + 1)
-        return steps, [self.queue(part, steps) for part in parts if len(part)]
+        groups = Groups(self.events.port * 2 + self.sides)
+        parts = (groups.order[begin:end] for _, begin, end in groups.parts())
+        return steps, [self.queue(part, steps) for part in parts]
 
     def queue(self, at: np.ndarray, steps: Steps) -> Queue:
         """One output port of one side; `at` are its copies."""
-        port, side = int(self.events.port[at[0]]), int(self.sides[at[0]])
+        events, port, side = self.events, int(self.events.port[at[0]]), int(self.sides[at[0]])
+        length = self.lengths[at].astype(np.int64)
+        slot = (length + WIRE_EXTRA) * self.by_port[port].byte_ns
+        since, begun, span = events.since[at], events.time[at], self.last - self.first
+        if self.all_left:
+            begun -= slot
+            backlog, time = most_waiting(since, begun, length)
+            loads, load = loads_of(begun, slot, steps, span)
+            return Queue(port, side, len(at), backlog, time, load, loads)
         left = self.left[at]
-        length = self.listing.length[self.events.line[at]].astype(np.int64)
-        slot = np.where(left, (length + WIRE_EXTRA) * self.by_port[port].byte_ns, 0)
-        put = self.events.fate[at] != FATES.index(LOST)
-        begun = self.events.time[at] - slot
-        backlog, time = most_waiting(self.events.since[at][put], begun[put], length[put])
-        loads, load = loads_of(begun[left], slot[left], steps, self.last - self.first)
+        begun -= np.where(left, slot, 0)
+        put = events.fate[at] != FATES.index(LOST)
+        backlog, time = most_waiting(since[put], begun[put], length[put])
+        loads, load = loads_of(begun[left], slot[left], steps, span)
         return Queue(port, side, int(left.sum()), backlog, time, load, loads)
 
     def drops(self, most: int = 200) -> tuple[Steps, dict[str, np.ndarray]]:
@@ -210,15 +245,6 @@ class Counting:
         return steps, found
 
 
-def order_of(keys: np.ndarray) -> np.ndarray:
-    """The order by keys below 2 ** 32, equal ones as they stand: by two halves of 16 bits, which
-    numpy sorts several times faster."""
-    low = (keys & 0xFFFF).astype(np.uint16)
-    order = np.argsort(low, kind="stable")
-    high = (keys >> 16).astype(np.uint16)
-    return order[np.argsort(high[order], kind="stable")] if high.any() else order
-
-
 def sorted_by(keys: np.ndarray, values: np.ndarray) -> np.ndarray:
     """The order by keys, then by values; equal ones as they stand."""
     bits = int(values.max(initial=0)).bit_length()
@@ -229,8 +255,16 @@ def sorted_by(keys: np.ndarray, values: np.ndarray) -> np.ndarray:
 
 def tally(keys: np.ndarray, kinds: np.ndarray, key_count: int, kind_count: int) -> np.ndarray:
     """How often each kind comes with each key."""
-    both = keys.astype(np.int64) * kind_count + kinds
+    both = keys * np.int32(kind_count) + kinds
     return np.bincount(both, minlength=key_count * kind_count).reshape(key_count, kind_count)
+
+
+def in_order(times: np.ndarray, others: np.ndarray) -> tuple[np.ndarray, np.ndarray]:
+    """The times in their order, and the others beside them."""
+    if is_ascending(times):
+        return times, others
+    order = np.argsort(times, kind="stable")
+    return times[order], others[order]
 
 
 def most_waiting(put: np.ndarray, begun: np.ndarray, length: np.ndarray) -> tuple[int, int]:
@@ -238,26 +272,30 @@ def most_waiting(put: np.ndarray, begun: np.ndarray, length: np.ndarray) -> tupl
     is put until it is begun, at both moments too."""
     if not len(put):
         return 0, 0
-    coming, going = np.argsort(put, kind="stable"), np.argsort(begun, kind="stable")
-    times = put[coming]
-    gone = np.concatenate(([0], np.cumsum(length[going])))
-    before = np.searchsorted(begun[going], times, side="left")  # how many were begun earlier
-    waiting = np.cumsum(length[coming]) - gone[before]
-    most = int(np.argmax(waiting))
+    times, coming = in_order(put, length)
+    begun, going = in_order(begun, length)
+    gone = np.concatenate(([0], np.cumsum(going)))
+    before = begun.searchsorted(times, "left")  # how many were begun earlier
+    waiting = np.cumsum(coming)
+    waiting -= gone[before]
+    most = int(waiting.argmax())
     return int(waiting[most]), int(times[most])
 
 
 def loads_of(
     begun: np.ndarray, slot: np.ndarray, steps: Steps, span: int
 ) -> tuple[np.ndarray, float]:
-    """The share of the line in use in each step, and over the whole run."""
-    order = np.argsort(begun, kind="stable")
-    begun, slot = begun[order], slot[order]
-    used = np.cumsum(slot)
-    moments = np.stack((begun, begun + slot), axis=1).ravel() - steps.start
-    busy = np.stack((used - slot, used), axis=1).ravel()
-    edges = np.arange(steps.count + 1) * steps.width
-    if not len(busy):
+    """The share of the line in use in each step, and over the whole run. No two slots overlap, so
+    at an edge between steps those around it say how much was used until then."""
+    if not len(begun):
         return np.zeros(steps.count), 0.0
+    begun, slot = in_order(begun, slot)
+    used = np.cumsum(slot)
+    edges = np.arange(steps.count + 1) * steps.width
+    near = begun.searchsorted(edges + steps.start, "right")[:, None] + (-1, 0)
+    near = np.unique(np.clip(near, 0, len(begun) - 1))
+    some, slots, until = begun[near], slot[near], used[near]
+    moments = np.stack((some, some + slots), axis=1).ravel() - steps.start
+    busy = np.stack((until - slots, until), axis=1).ravel()
     at_edges = np.interp(edges, moments, busy)
     return np.diff(at_edges) / steps.width, float(used[-1]) / max(span, 1)

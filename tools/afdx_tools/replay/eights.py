@@ -11,10 +11,15 @@ HIGHEST = np.uint64(0x8080_8080_8080_8080)  # the highest bit of each byte
 ZEROS = np.uint64(ord("0")) * ONES
 SPACES = np.uint64(ord(" ")) * ONES
 OVER_NINE = np.uint64(0x7F - 9) * ONES  # added to a byte that is over 9 it sets the highest bit
-ONE, SEVEN, BYTE, TOP = map(np.uint64, (1, 7, 8, 56))
-TEN, HALF, LOW = np.uint64(10), np.uint64(32), np.uint64(0xFF_0000_00FF)
-THOUSANDS = np.uint64(1_000_000 << 32 | 100)  # of the first and the third pair of digits
-UNITS = np.uint64(10_000 << 32 | 1)  # of the second and the fourth
+ONE, SEVEN, BYTE, TOP, INDEX = map(np.uint64, (1, 7, 8, 56, 61))
+# By what numbers of one, two and four digits are multiplied, so that each one and the next are
+# joined, in the bits of the next; by how many these are moved down; and the bits that are kept.
+JOINING = [
+    (np.uint64(10 << 8 | 1), BYTE, np.uint64(0x00FF_00FF_00FF_00FF)),
+    (np.uint64(100 << 16 | 1), np.uint64(16), np.uint64(0x0000_FFFF_0000_FFFF)),
+    (np.uint64(10_000 << 32 | 1), np.uint64(32), np.uint64(0xFFFF_FFFF)),
+]
+PLACES = np.uint64(sum(n << 61 - 8 * n for n in range(8)))  # times a byte's lowest bit: its place
 MASKS = np.array([*((1 << 8 * n) - 1 for n in range(9)), *[2**64 - 1] * 8], np.uint64)  # of bytes
 POWERS = np.array([10**n for n in range(9)], np.uint64)
 
@@ -46,12 +51,54 @@ def until_space(eights: Eights) -> Eights:
     return before((other - ONES) & ~other & HIGHEST)
 
 
-def digits(eights: Eights) -> tuple[Eights, np.ndarray]:
-    """The number that the bytes begin with, 0 where it has no digit, and how many digits it has."""
+def joined(values: Eights) -> Eights:
+    """The numbers of eight digits each, of which each byte holds one; they take their place."""
+    for factor, down, kept in JOINING:
+        values *= factor
+        values >>= down
+        values &= kept
+    return values
+
+
+def digits(eights: Eights) -> tuple[Eights, np.ndarray | int]:
+    """The number that the bytes begin with, 0 where it has no digit, and how many digits it has,
+    one number where all have as many."""
     values = eights ^ ZEROS
-    mask = before((values + OVER_NINE | values) & HIGHEST)
+    others = values + OVER_NINE  # a byte that is no digit is marked by its highest bit
+    others |= values
+    others &= HIGHEST
+    even = even_length(others)
+    if even is not None:
+        values <<= BYTE * np.uint64(8 - even)  # at the highest bytes
+        return joined(values), even
+    mask = before(others)
     length = count(mask)
-    last = (values & mask) << (BYTE * (BYTE - length.astype(np.uint64)))  # at the highest bytes
-    pairs = last * TEN + (last >> BYTE)
-    sums = (pairs & LOW) * THOUSANDS + (pairs >> np.uint64(16) & LOW) * UNITS
-    return sums >> HALF, length
+    values &= mask
+    values <<= BYTE * (BYTE - length.astype(np.uint64))
+    return joined(values), length
+
+
+def even_length(others: Eights) -> int | None:
+    """How many bytes stand before the first one that is marked, if these are as many in all."""
+    if not len(others):
+        return 0
+    first = int(others[0])
+    length = ((first & -first).bit_length() - 1) // 8 if first else 8
+    until = others & MASKS[length + 1]
+    return length if (until == until[0]).all() else None
+
+
+def places_of(text: np.ndarray, size: int, byte: int) -> np.ndarray:
+    """The places of a byte among the first `size` ones of a text, behind which eight more stand
+    that are others. Eight bytes are looked at together, and seldom two of them should be it."""
+    marked = text[: size + 7 & ~7] == byte
+    eights = marked.view(np.uint64)
+    found = np.flatnonzero(eights != 0)
+    lowest = eights[found]
+    if np.bitwise_or.reduce(lowest & (lowest - ONE)):
+        return np.flatnonzero(marked)
+    lowest *= PLACES
+    lowest >>= INDEX
+    found <<= 3
+    found += lowest.view(np.int64)
+    return found

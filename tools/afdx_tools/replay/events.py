@@ -21,7 +21,7 @@ LOST, OLD, LEFT = "full-buffer", "too-old", "left"
 FATES = (LEFT, LOST, OLD)
 NOT_YET = -1  # stands for a line without a verdict, and for a departure without a receiver's line
 LETTERS = {letter: ord(letter) for letter in "VLDTMX"}
-KNOWN = np.isin(np.arange(256), list(LETTERS.values()))
+OTHERS = np.isin(np.arange(256), list(LETTERS.values()), invert=True)
 
 
 class Words:
@@ -87,13 +87,14 @@ class Events:
 
     def take(self, block: Block, report: Callable[[int], None]) -> None:
         """Takes a block's lines; behind a departure stands what the receiver did."""
-        if not KNOWN[block.heads].all():
+        counts = np.bincount(block.heads, minlength=len(OTHERS))
+        if counts[OTHERS].any():
             raise Refused("the program wrote a line that this tool doesn't know")
         lines = self.judged(block)
         if len(lines):
             report(int(lines[-1]))
-        found = [self.lost(block), self.departed(block), self.old(block)]
-        found = [one for one in found if len(one["at"])]
+        kinds = (("L", self.lost), ("D", self.departed), ("T", self.old))
+        found = [columns(block) for letter, columns in kinds if counts[LETTERS[letter]]]
         if len(found) > 1:  # else they stand in their order
             part = {name: np.concatenate([one[name] for one in found]) for name in found[0]}
             order = np.argsort(part["at"], kind="stable")

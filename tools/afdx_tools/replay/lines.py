@@ -11,7 +11,7 @@ from typing import IO, Iterator, Protocol, cast
 
 import numpy as np
 
-from afdx_tools.replay.eights import POWERS, digits, fours, windows
+from afdx_tools.replay.eights import POWERS, digits, fours, places_of, windows
 
 SPACE, LINE_FEED, RETURN = 32, 10, 13
 EACH = 2 << 20  # bytes of text that are looked at together
@@ -29,6 +29,11 @@ def keep_memory() -> None:
         set_option = ctypes.CDLL(None).mallopt
         set_option(TRIM_THRESHOLD, 1 << 30)
         set_option(MMAP_THRESHOLD, 1 << 25)
+
+
+FIRST = np.full(1 << 16, -1, np.int16)  # by two bytes: the number that they are, or one digit is
+FIRST[np.frombuffer(b"".join(b"%02d" % n for n in range(100)), "<u2")] = range(100)
+FIRST[np.frombuffer(b"".join(b"%d " % n for n in range(10)), "<u2")] = range(10)
 
 
 class Readable(Protocol):
@@ -54,7 +59,8 @@ class Block:
         self.bytes = np.frombuffer(whole, np.uint8)
         self.eights = windows(self.bytes)
         self.fours = fours(self.bytes)
-        self.ends = np.flatnonzero(self.bytes[:size] == LINE_FEED)
+        size = len(whole) - len(PADDING) if size is None else size
+        self.ends = places_of(self.bytes, size, LINE_FEED)
         self.starts = np.concatenate((np.zeros(1, np.int64), self.ends[:-1] + 1))
         self.heads = self.bytes[self.starts]
 
@@ -77,13 +83,28 @@ class Block:
         """The numbers whose digits begin there, and where each ends."""
         values, length = digits(self.eights[begin])
         places = begin + length
-        left = np.flatnonzero(length == 8)  # where there may be more
+        while isinstance(length, int) and length == 8:  # there may be more
+            more, length = digits(self.eights[places])
+            values *= POWERS[length]
+            values += more
+            places += length
+        left = np.flatnonzero(length == 8)
         while len(left):
             more, length = digits(self.eights[places[left]])
             values[left] = values[left] * POWERS[length] + more
             places[left] += length
-            left = left[length == 8]
+            left = left[np.broadcast_to(length == 8, len(left))]
         return values.view(np.int64), places
+
+    def ports(self, begin: np.ndarray) -> tuple[np.ndarray, np.ndarray]:
+        """The same, sooner where all of them have one or two digits and a space behind these."""
+        words = self.fours[begin]
+        values = FIRST[words.astype(np.uint16)]
+        is_long = words & np.uint32(0xFF00) != SPACE << 8
+        ended = words & np.uint32(0xFF_0000) == SPACE << 16
+        if (values < 0).any() or (is_long & ~ended).any():
+            return self.numbers(begin)
+        return values.astype(np.int64), begin + 1 + is_long
 
     def last_ports(self, lines: np.ndarray) -> tuple[np.ndarray, np.ndarray, np.ndarray]:
         """Of lines that end with a space and a number of one or two digits: that number, the byte
@@ -99,7 +120,10 @@ class Block:
         """The words that these lines end with, and for each line the place of its word among them.
         Words are told apart by their last eight bytes; the lines must have as many."""
         keys = self.eights[self.ends[lines] - 8]
-        _, first, places = np.unique(keys, return_index=True, return_inverse=True)
+        if len(keys) and (keys == keys[0]).all():
+            first, places = np.zeros(1, np.int64), np.zeros(len(keys), np.int64)
+        else:
+            _, first, places = np.unique(keys, return_index=True, return_inverse=True)
         found = [self.text(self.starts[n], self.ends[n]).split(b" ")[-1] for n in lines[first]]
         return [word.decode("ascii", "replace") for word in found], places
 

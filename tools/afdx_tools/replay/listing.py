@@ -2,7 +2,7 @@
 from __future__ import annotations
 
 import hashlib
-from typing import IO, Callable
+from typing import IO, Callable, Iterator
 
 import numpy as np
 
@@ -16,13 +16,14 @@ NO_NUMBER = -1  # stands for frames too short for a sequence number
 NO_SOURCE = -1  # stands for frames too short for a source address
 SIDES = "AB"
 KINDS = np.isin(np.arange(256), list(b"FBR"))
-CONSTANT = np.frombuffer(b"03000000", np.uint8)
+CONSTANT = np.frombuffer(b"03000000", "<u8")[0]
 DIGIT = np.full(256, 0, np.int32)
 DIGIT[np.frombuffer(b"0123456789", np.uint8)] = range(10)
 DIGIT[np.frombuffer(b"abcdef", np.uint8)] = range(10, 16)
 DIGIT[np.frombuffer(b"ABCDEF", np.uint8)] = range(10, 16)
-NETWORK = np.full(257, NO_SOURCE, np.int8)  # by the last byte of a source address; the last: none
-NETWORK[[0x20, 0x40]] = 0, 1
+BYTES = (DIGIT * 16 + DIGIT[:, None]).ravel()  # by two letters: the byte that they spell
+NETWORKS = np.full(256, NO_SOURCE, np.int8)  # by the last byte of a source address
+NETWORKS[[0x20, 0x40]] = 0, 1
 
 
 class Listing:
@@ -110,13 +111,11 @@ def columns_of_none() -> dict[str, np.ndarray]:
 
 def columns_of(block: Block, sites: Sites) -> dict[str, np.ndarray]:
     """The columns of a block's lines; those of lines that aren't sound are of no use."""
-    count = len(block.ends)
-    columns = {name: np.repeat(column, count) for name, column in columns_of_none().items()}
     lines = np.flatnonzero(KINDS[block.heads] & (block.at(block.starts + 1) == SPACE))
     time, after = block.numbers(block.starts[lines] + 2)
     side = block.at(after + 1) - np.uint8(ord("A"))
     switch, behind = sites.read(block, after + 1)
-    port, blank = block.numbers(behind + 1)
+    port, blank = block.ports(behind + 1)
     begin, end = blank + 1, block.ends[lines]
     end = end - (block.bytes[end - 1] == RETURN)
     sound = (side <= 1) & (switch >= 0) & (begin < end)
@@ -125,46 +124,65 @@ def columns_of(block: Block, sites: Sites) -> dict[str, np.ndarray]:
     # over 24: a fault, with which the run ends
     port = MOST_PORTS * switch + np.minimum(port, MOST_PORTS - 1)
     found = (lines, time, side, port, begin, end)
-    lines, time, side, port, begin, end = (part[sound] for part in found)
+    if not sound.all():
+        lines, time, side, port, begin, end = (part[sound] for part in found)
     size = np.where(block.at(begin) == ord("-"), 0, end - begin)
     raw = block.heads[lines] == ord("R")
-    columns["sound"][lines] = True
-    columns["time"][lines] = time
-    columns["side"][lines] = side
-    columns["port"][lines] = port
-    columns["length"][lines] = size // 2 + np.where(raw, 0, 4)
-    columns["link"][lines] = links_of(block.bytes, begin, size)
-    last = np.where(raw, 10, 2)  # digits from the sequence number on
-    columns["number"][lines] = pairs(block.bytes, begin + size - last, size >= last, NO_NUMBER)
-    columns["source"][lines], columns["network"][lines] = sources_of(block.bytes, begin, size)
-    return columns
+    columns = {
+        "sound": np.ones(len(lines), bool),
+        "time": time,
+        "side": side,
+        "port": port,
+        "length": (size >> 1) + np.where(raw, 0, 4),
+        "link": links_of(block, begin, size),
+        "number": numbers_of(block, begin, size, raw),
+    }
+    columns["source"], columns["network"] = sources_of(block, begin, size)
+    return among(len(block.ends), lines, columns)
+
+
+def among(
+    count: int, lines: np.ndarray, columns: dict[str, np.ndarray]
+) -> dict[str, np.ndarray]:
+    """The columns of these lines among so many, those of the others as of no line."""
+    none = columns_of_none()
+    if len(lines) == count:
+        return {name: columns[name].astype(one.dtype, copy=False) for name, one in none.items()}
+    filled = {name: np.repeat(one, count) for name, one in none.items()}
+    for name, column in columns.items():
+        filled[name][lines] = column
+    return filled
+
+
+def links_of(block: Block, begin: np.ndarray, size: np.ndarray) -> np.ndarray:
+    """The links that the destination addresses name, NO_LINK where they are no link's."""
+    named = (size >= 12) & (block.eights[begin] == CONSTANT)
+    high, low, _, _ = bytes_of(block, begin + 8)
+    return np.where(named, high * 256 + low, NO_LINK)
 
 
 def sources_of(
-    text: np.ndarray, begin: np.ndarray, size: np.ndarray
+    block: Block, begin: np.ndarray, size: np.ndarray
 ) -> tuple[np.ndarray, np.ndarray]:
     """The end systems that the source addresses name, and the networks."""
     there = size >= 24
-    high, low = (pairs(text, begin + at, there, 0) for at in (18, 20))
-    network = NETWORK[pairs(text, begin + 22, there, NO_SOURCE)]
+    _, high, low, last = bytes_of(block, begin + 16)
+    network = np.where(there, NETWORKS[last], np.int8(NO_SOURCE))
     return np.where(there, high * 256 + low, NO_SOURCE), network
 
 
-def pairs(text: np.ndarray, at: np.ndarray, there: np.ndarray, other: int) -> np.ndarray:
-    """The bytes that two digits at these places spell; `other` where they aren't there."""
-    at = np.where(there, at, 0)
-    most = len(text) - 1
-    value = DIGIT[text[at]] * 16 + DIGIT[text[np.minimum(at + 1, most)]]
-    return np.where(there, value, other)
+def numbers_of(
+    block: Block, begin: np.ndarray, size: np.ndarray, raw: np.ndarray
+) -> np.ndarray:
+    """The sequence numbers: the last bytes, in `raw` lines before the check sequence."""
+    last = np.where(raw, 10, 2)  # digits from the sequence number on
+    there = size >= last
+    at = np.where(there, begin + size - last, 0)
+    value = BYTES[block.fours[at].astype(np.uint16)]
+    return np.where(there, value, np.int32(NO_NUMBER))
 
 
-def links_of(text: np.ndarray, begin: np.ndarray, size: np.ndarray) -> np.ndarray:
-    """The links that the destination addresses name, NO_LINK where they are no link's."""
-    named = size >= 12
-    at = np.where(named, begin, 0)
-    most = len(text) - 1
-    for place, byte in enumerate(CONSTANT):
-        named &= text[np.minimum(at + place, most)] == byte
-    high = pairs(text, at + 8, named, 0)
-    low = pairs(text, at + 10, named, 0)
-    return np.where(named, high * 256 + low, NO_LINK)
+def bytes_of(block: Block, at: np.ndarray) -> Iterator[np.ndarray]:
+    """The four bytes that the eight digits at these places spell."""
+    pairs = block.eights[at].view(np.uint16).reshape(-1, 4)
+    return (BYTES[pairs[:, place]] for place in range(4))

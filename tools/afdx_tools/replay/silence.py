@@ -14,7 +14,8 @@ import numpy as np
 
 from afdx_tools.replay.counting import Counting
 from afdx_tools.replay.events import side_name
-from afdx_tools.replay.traffic import NUMBERED, grouped, of_kinds
+from afdx_tools.replay.grouping import grouped
+from afdx_tools.replay.traffic import NUMBERED, by_link
 
 LEAST = 4  # BAGs, and gaps as they are usual
 NETWORK, SYSTEM, LINK = "network", "system", "link"
@@ -70,32 +71,43 @@ class Silences:
         times = counting.listing.time[counting.arrived]
         self.begin, self.end = (int(times[0]), int(times[-1])) if len(times) else (0, 0)
         self.found = {
-            (one.level, one.name, side_name(side)): list(self.silent(one, side, usual))
+            (one.level, one.name, side_name(side)): silences
             for one in heard(counting)
-            for usual in [self.usual(one)]
-            for side in (0, 1)
+            for side, silences in enumerate(self.silences_of(one))
         }
         left = {key: self.unexplained(key, found) for key, found in self.found.items()}
         names = dict.fromkeys((level, name) for level, name, _ in left)
         self.rows = [row for key in names for row in merged(left[(*key, "A")], left[(*key, "B")])]
 
-    def usual(self, heard: Heard) -> int:
-        """The usual gap of one, the lesser of both sides; 0 where there is none."""
-        times = (self.counting.listing.time[lines] for lines in heard.lines)
-        return min((gap for gap in map(usual_gap, times) if gap), default=0)
-
-    def silent(self, heard: Heard, side: int, usual: int) -> Iterator[Silence]:
-        """The silences of one on a side. A network of which nothing came is silent, however short
-        the run."""
+    def silences_of(self, heard: Heard) -> list[list[Silence]]:
+        """The silences of one, on each side. By the usual gap the lesser of both sides is meant, 0
+        where there is none. A network of which nothing came is silent, however short the run."""
         times = [self.counting.listing.time[lines] for lines in heard.lines]
-        least = LEAST * max(heard.bag, usual)
-        is_dead = heard.level == NETWORK and not len(times[side]) and len(times[1 - side])
-        if self.end - self.begin <= least and not is_dead:
-            return
+        gaps = [each[1:] - each[:-1] for each in times]
+        usual = min((gap for gap in map(usual_gap, gaps) if gap), default=0)
+        least, found = LEAST * max(heard.bag, usual), []
+        for side in (0, 1):
+            is_dead = heard.level == NETWORK and not len(times[side]) and len(times[1 - side]) > 0
+            longest = self.longest(times[side], gaps[side])
+            is_silent = is_dead or longest > least
+            found.append(list(self.silent(heard, side, times, least)) if is_silent else [])
+        return found
+
+    def longest(self, times: np.ndarray, gaps: np.ndarray) -> int:
+        """The longest time without any of these frames."""
+        if not len(times):
+            return self.end - self.begin
+        edges = int(times[0]) - self.begin, self.end - int(times[-1])
+        return max(*edges, int(gaps.max(initial=0)))
+
+    def silent(
+        self, heard: Heard, side: int, times: list[np.ndarray], least: int
+    ) -> Iterator[Silence]:
+        """The silences of one on a side; of one of which nothing came there, all of the run."""
         none = np.zeros(1, np.int64)
-        edges = np.concatenate(([self.begin], times[side], [self.end]))
+        edges = np.concatenate((none + self.begin, times[side], none + self.end))
         lines = np.concatenate((none, heard.lines[side], none))
-        for at in np.flatnonzero(np.diff(edges) > (-1 if is_dead else least)):
+        for at in np.flatnonzero(np.diff(edges) > (least if len(times[side]) else -1)):
             begin, end = int(edges[at]), int(edges[at + 1])
             first = np.searchsorted(times[1 - side], begin, "left")
             last = np.searchsorted(times[1 - side], end, "right")
@@ -153,10 +165,9 @@ def merged(of_a: list[Silence], of_b: list[Silence]) -> Iterable[Silence]:
 def heard(counting: Counting) -> Iterator[Heard]:
     """Whose frames came: the network, each system that sends, each link."""
     config, side = counting.config, counting.listing.side.astype(np.int64)
-    arrived, numbered = counting.arrived, of_kinds(counting, NUMBERED)
+    arrived, numbered = counting.arrived, by_link(counting, NUMBERED)
     of_port = groups_by(side + 2 * counting.listing.port, arrived)
-    of_link = groups_by(counting.place * 2 + side, numbered)
-    none, heard_of = arrived[:0], set(of_link)
+    none, heard_of = arrived[:0], set(numbered.keys)
     bags = {vl: link.bag_ms * 1_000_000 for vl, link in config.links.items()}
     came = [vl for place, vl in enumerate(counting.order) if {2 * place, 2 * place + 1} & heard_of]
     bag = min((bags[vl] for vl in came or bags), default=1_000_000)
@@ -168,7 +179,7 @@ def heard(counting: Counting) -> Iterator[Heard]:
             lines = [of_port.get(2 * system.port + each, none) for each in (0, 1)]
             yield Heard(SYSTEM, system.name, bag, lines)
     for place, vl in enumerate(counting.order):
-        lines = [of_link.get(2 * place + each, none) for each in (0, 1)]
+        lines = [numbered.of(2 * place + each) for each in (0, 1)]
         yield Heard(LINK, vl, bags[vl], lines)
 
 
@@ -177,11 +188,10 @@ def groups_by(keys: np.ndarray, lines: np.ndarray) -> dict[int, np.ndarray]:
     return {key: lines[at] for key, at in grouped(keys[lines]).items()}
 
 
-def usual_gap(times: np.ndarray) -> int:
-    """What nearly all gaps between these don't exceed: all but the longest twentieth of them, and
-    all but the two longest; 0 where there is none."""
-    if len(times) < 2:
+def usual_gap(gaps: np.ndarray) -> int:
+    """What nearly all of these gaps don't exceed: all but the longest twentieth of them, and all
+    but the two longest; 0 where there is none."""
+    if not len(gaps):
         return 0
-    gaps = np.diff(times)
     rank = max(len(gaps) - 1 - max(len(gaps) // 20, 2), 0)
     return int(np.partition(gaps, rank)[rank])

@@ -6,7 +6,7 @@ from typing import Callable, Iterator, Sequence
 
 from afdx_tools.replay.silence import LINK, NETWORK, SYSTEM
 from afdx_tools.report.criteria import places_of
-from afdx_tools.report.ranking import latencies_of, latency_words, ranked
+from afdx_tools.report.ranking import late_ones, latencies_of, latency_words
 from afdx_tools.tables import Row, link_words
 
 MOST_NAMED = 3  # of a kind, each in a sentence of its own
@@ -239,7 +239,7 @@ def drop_words(rows: Sequence[Row]) -> str:
 def late(report: Row) -> Iterator[Finding]:
     """Copies that left too late."""
     tables = latencies_of(report), report["latency"]
-    late_rows = ([row for row in ranked(table) if row["late"]] for table in tables)
+    late_rows = map(late_ones, tables)
     rows: list[Row] = next(filter(None, late_rows), [])
     if rows:
         copies = many(report["totals"]["late"], "copy", "copies")

@@ -15,6 +15,7 @@ from afdx_tools.replay.traffic import Traffic, traffic_of
 from afdx_tools.tables import Row
 
 MOST_TROUBLES = 10_000
+PIECE = 64  # values of which the greatest is looked for first
 AT_SWITCHES = ("dropped", "full_buffer", "late", "too_old")
 SUMS = (
     "frames",
@@ -40,12 +41,29 @@ def words_of(counts: np.ndarray, names: Sequence[str], without: Sequence[str]) -
     return {name: int(count) for name, count in zip(names, counts) if count and name not in without}
 
 
-def sums_row(counting: Counting, keys: np.ndarray, of_copies: np.ndarray, count: int) -> list[Row]:
-    """For each key the sums, of one without frames that alone; `keys` has one for each line,
-    `of_copies` one for each copy."""
-    frames, came = counting.frames_by(keys, count), counting.came_by(keys, count)
-    fates, ends = counting.fates_by(of_copies, count), counting.ends_by(of_copies, count)
-    late, left = counting.late_by(of_copies, count), counting.ended_by(of_copies, count)
+def sums_by(counting: Counting) -> list[np.ndarray]:
+    """For each link and side the arrivals and all that came to a switch by verdict, the copies by
+    fate and by what receivers did, those that were late, and those that left to systems."""
+    keys, count = counting.sent_on, 2 * len(counting.vls)
+    of_copies = counting.links * np.int32(2) + counting.sides
+    return [
+        counting.frames_by(keys, count),
+        counting.came_by(keys, count),
+        counting.fates_by(of_copies, count),
+        counting.ends_by(of_copies, count),
+        counting.late_by(of_copies, count),
+        counting.ended_by(of_copies, count),
+    ]
+
+
+def of_both_sides(sums: list[np.ndarray]) -> list[np.ndarray]:
+    """The same for each link."""
+    return [counts[::2] + counts[1::2] for counts in sums]
+
+
+def sums_rows(counting: Counting, sums: list[np.ndarray]) -> list[Row]:
+    """A row for each of these sums, of what has no frames that alone."""
+    frames, came, fates, ends, late, left = sums
     verdicts, ended = counting.events.verdicts.names, counting.events.ends.names
     rows: list[Row] = []
     for key, total in enumerate(frames.sum(axis=1).tolist()):
@@ -79,20 +97,17 @@ def at_port(counting: Counting, port: int) -> Row:
     return {**counting.config.keys_of(port), "system": counting.by_port[port].name}
 
 
-def link_rows(counting: Counting) -> list[Row]:
+def link_rows(counting: Counting, sums: list[np.ndarray]) -> list[Row]:
     """A row for each link that has frames, by its identifier; frames of no link come last."""
-    rows = sums_row(counting, counting.place, counting.links, len(counting.vls))
+    rows = sums_rows(counting, of_both_sides(sums))
     return [{"link": vl_text(vl), **row} for vl, row in zip(counting.vls, rows) if row["frames"]]
 
 
-def side_rows(counting: Counting, copied: Copied) -> list[Row]:
+def side_rows(counting: Counting, copied: Copied, sums: list[np.ndarray]) -> list[Row]:
     """A row for each link and side: sums, and what was measured of the arrivals there."""
-    keys = counting.place * 2 + counting.listing.side
-    of_copies = counting.links * 2 + counting.sides
-    sums = sums_row(counting, keys, of_copies, 2 * len(counting.vls))
     traffic, alone = traffic_of(counting), alone_by_side(counting, copied)
     rows = []
-    for key, row in enumerate(sums):
+    for key, row in enumerate(sums_rows(counting, sums)):
         vl, side = counting.vls[key // 2], key % 2
         if row["frames"] and vl != NO_LINK:
             measured = measured_row(counting, vl, traffic.get((vl, side)))
@@ -163,7 +178,7 @@ def latency_row(counting: Counting, checked: Checked, path: Path) -> Row:
 
 def latency_rows(counting: Counting, checked: Checked) -> list[Row]:
     """A row for each link, port and side where a frame left."""
-    return [latency_row(counting, checked, path) for path in counting.paths()]
+    return [latency_row(counting, checked, path) for path in counting.paths]
 
 
 def port_rows(counting: Counting, checked: Checked) -> tuple[list[Row], Row]:
@@ -206,21 +221,21 @@ def drops_of(counting: Counting) -> Row:
 def histogram_of(counting: Counting) -> Row:
     """For each side the copies by share of their link's configured latency, in steps of 5 %; the
     last step is over 100 %."""
-    twentieths = -(-counting.whole * 20 // np.maximum(counting.promised, 1))
-    places = np.clip(twentieths - 1, 0, 20)
-    return {
-        side_name(side): np.bincount(
-            places[counting.ended & (counting.sides == side)], minlength=21
-        ).tolist()
-        for side in (0, 1)
-    }
+    counts = np.zeros((2, 22), np.int64)
+    for path in counting.ways:
+        ends = np.arange(1, 21) * max(path.asked, 1) // 20
+        counts[path.side, 1:21] += path.latencies.searchsorted(ends, "right")
+        counts[path.side, 21] += len(path.latencies)
+    return {side_name(side): np.diff(counts[side]).tolist() for side in (0, 1)}
 
 
 def frame_rows(counting: Counting, checked: Checked, most: int) -> list[Row]:
     """The copies whose latency was the greatest share of the configured one, the worst first; of
     several switches from end to end."""
-    at = np.flatnonzero(counting.ended)
-    shares = counting.whole[at] / np.maximum(counting.promised[at], 1)
+    at, whole, promised = np.flatnonzero(counting.ended), counting.whole, counting.promised
+    if len(at) < len(whole):
+        whole, promised = whole[at], promised[at]
+    shares = whole / np.maximum(promised, 1)
     order = np.lexsort((at, -shares))[:most] if len(at) <= 4 * most else largest(shares, most)
     rows = []
     for copy in at[order]:
@@ -240,10 +255,19 @@ def frame_rows(counting: Counting, checked: Checked, most: int) -> list[Row]:
     return rows
 
 
+def nth_greatest(values: np.ndarray, n: int) -> float:
+    """The n-th of these values from the greatest on."""
+    return np.partition(values, len(values) - n)[len(values) - n]
+
+
 def largest(values: np.ndarray, most: int) -> np.ndarray:
-    """The places of the greatest values, the greatest first, of equal ones the earlier first."""
-    least = np.partition(values, len(values) - most)[len(values) - most]
-    at = np.flatnonzero(values >= least)
+    """The places of the greatest values, the greatest first, of equal ones the earlier first. Of as
+    many pieces each has a value that is no less than the least of their greatest."""
+    if len(values) > PIECE * most:
+        greatest = np.maximum.reduceat(values, np.arange(0, len(values), PIECE))
+        at = np.flatnonzero(values >= nth_greatest(greatest, most))
+        return at[largest(values[at], most)] if len(at) < len(values) else at[:most]
+    at = np.flatnonzero(values >= nth_greatest(values, most))
     return at[np.lexsort((at, -values[at]))][:most]
 
 

@@ -1,12 +1,13 @@
 """What a report's page is made of: sections, and tables of which it has the rows that matter."""
 from __future__ import annotations
 
+import functools
 from html import escape
 from typing import Collection, Sequence
 
 from afdx_tools.known import findings
 from afdx_tools.report.where import Where, named_in
-from afdx_tools.tables import Row, by_column, cell, cells_of, heads, is_whole
+from afdx_tools.tables import Row, by_column, cell, cells_of, heads, kinds_of
 
 MOST_ROWS = 10_000  # of a table on a page
 LONG = 60  # rows that don't find room in a box
@@ -37,11 +38,16 @@ def kind_of(name: str, rows: Sequence[Row]) -> str:
     return "" if any(isinstance(value, str) for value in values) else "number"
 
 
+@functools.cache
+def wrong_columns() -> tuple[str, ...]:
+    """Columns that are empty where nothing is wrong."""
+    return *WRONG, *findings()
+
+
 def is_over(row: Row) -> bool:
     """Is something in the row over what the tables say, or of no good at all?"""
-    for name in (*WRONG, *findings()):
-        if row.get(name):
-            return True
+    if any(map(row.get, wrong_columns())):
+        return True
     for name, table in LIMITED:
         if table in row and (row.get(name) or 0) > row[table]:
             return True
@@ -71,9 +77,10 @@ def share_of(row: Row) -> float:
 
 def words_in(name: str, values: Sequence) -> list[str]:
     """The values of a column as they stand on the page."""
-    if is_plain(name):
+    kinds = kinds_of(values)
+    if is_plain(name) or kinds <= {str, float}:
         return cells_of(values)
-    if is_whole(values):
+    if kinds == {int}:
         return list(map("{:,}".format, values))
     return [f"{value:,}" if isinstance(value, int) else cell(value) for value in values]
 

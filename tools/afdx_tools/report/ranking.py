@@ -36,17 +36,34 @@ def at(row: Row) -> str:
 def ranked(latency: Sequence[Row]) -> list[Row]:
     """The rows that are late, and those of ports to which enough frames of the link came, by share
     of the configured latency, the greatest first."""
+    return sorted(kept(latency), key=rank_of)
+
+
+def kept(latency: Sequence[Row]) -> list[Row]:
+    """The rows that are ranked, as they stand."""
+    places = list(map(place_of, latency))
     copies: dict[tuple, int] = {}
-    for row in latency:
-        copies[place_of(row)] = copies.get(place_of(row), 0) + row["frames"]
-    kept = [row for row in latency if row["late"] or copies[place_of(row)] >= FEWEST]
-    return sorted(kept, key=lambda row: (-row["share"], *place_of(row), row["side"]))
+    for place, row in zip(places, latency):
+        copies[place] = copies.get(place, 0) + row["frames"]
+    return [
+        row for place, row in zip(places, latency) if row["late"] or copies[place] >= FEWEST
+    ]
+
+
+def rank_of(row: Row) -> tuple:
+    """By what they are ranked, the first one having the least."""
+    return -row["share"], *place_of(row), row["side"]
 
 
 def nearest(latency: Sequence[Row]) -> Row | None:
     """The first of those that are ranked."""
-    rows = ranked(latency)
-    return rows[0] if rows else None
+    rows = kept(latency)
+    return min(rows, key=rank_of) if rows else None
+
+
+def late_ones(latency: Sequence[Row]) -> list[Row]:
+    """Those of the ranked rows that are late."""
+    return sorted((row for row in latency if row["late"]), key=rank_of)
 
 
 def latency_words(row: Row) -> str:

@@ -38,7 +38,7 @@ from afdx_tools.report.findings import findings_of
 from afdx_tools.report.lanes import arrivals_of
 from afdx_tools.report.made import header
 from afdx_tools.report.page import page
-from afdx_tools.report.ranking import FEWEST, latencies_of, latency_text, nearest, ranked
+from afdx_tools.report.ranking import FEWEST, late_ones, latencies_of, latency_text, nearest
 from afdx_tools.report.switches import line_rows, switch_rows
 from afdx_tools.report.ways import receiver_rows, way_rows
 from afdx_tools.report.where import Where
@@ -62,16 +62,16 @@ def tables_of(counting: Counting, checked: Checked, worst: int) -> Row:
     """What is counted of a run."""
     ports, loads = numbers.port_rows(counting, checked)
     silences = Silences(counting)
-    copied = copied_of(counting, silences)
+    copied, sums = copied_of(counting, silences), numbers.sums_by(counting)
     return {
         **several_of(counting, checked, copied),
         "bounds": bounds_of(counting, checked),
         "silences": silence_rows(counting, silences),
         "dropped": dropped_rows(counting),
-        "links": numbers.link_rows(counting),
+        "links": numbers.link_rows(counting, sums),
         "latency": numbers.latency_rows(counting, checked),
         "frames": numbers.frame_rows(counting, checked, worst),
-        "sides": numbers.side_rows(counting, copied),
+        "sides": numbers.side_rows(counting, copied, sums),
         "skews": skew_rows(counting, copied),
         "clocks": clock_rows(copied),
         "ports": ports,
@@ -168,9 +168,8 @@ def print_head(report: Row) -> None:
     if "skipped" in report:
         print(f"skipped     {cell(report['skipped'])}")
     print(f"nearest     {latency_text(most) if most else f'no link has {FEWEST} copies at a port'}")
-    for row in ranked(latencies_of(report)):
-        if row["late"]:
-            print(f"late        {latency_text(row)}, {row['late']} of {row['frames']} copies")
+    for row in late_ones(latencies_of(report)):
+        print(f"late        {latency_text(row)}, {row['late']} of {row['frames']} copies")
     if report["admission"] != "ok":
         print(UNPROMISED)
 

@@ -19,7 +19,7 @@ def switch_rows(counting: Counting) -> list[Row]:
     words, count = events.verdicts.names, 2 * len(names)
     here = 2 * (events.port // MOST_PORTS) + counting.sides  # of each copy
     there = 2 * (came.port // MOST_PORTS) + counting.listing.side[came.line]
-    brought = np.isin(came.port, list(counting.config.cables))
+    brought = counting.with_cable[came.port]
     verdicts = tally(there, came.verdict, count, len(words))
     fates = tally(here, events.fate, count, len(FATES))
     left = counting.left & ~counting.ended

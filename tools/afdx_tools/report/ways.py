@@ -8,45 +8,41 @@ from afdx_tools.replay.absence import Copied, number_of, side_of
 from afdx_tools.replay.checked import Checked
 from afdx_tools.replay.counting import Counting, Path
 from afdx_tools.replay.events import DELIVERED, NOT_YET, REDUNDANT, side_name
-from afdx_tools.replay.traffic import grouped
+from afdx_tools.replay.grouping import grouped
 from afdx_tools.report.numbers import at_port, named, spread_of, words_of
 from afdx_tools.tables import Row
 
 
-class Places:
-    """Finds the copy of a frame that left a port."""
-
-    def __init__(self, counting: Counting) -> None:
-        self.counting = counting
-        self.copies = np.flatnonzero(counting.left)
-        events = counting.events
-        keys = events.line[self.copies].astype(np.int64) * counting.ports
-        keys += events.port[self.copies]
-        order = np.argsort(keys, kind="stable")
-        self.copies, self.keys = self.copies[order], keys[order]
-
-    def copy_at(self, line: int, port: int) -> int:
-        """The copy of a line's frame that left that port."""
-        return int(self.copies[np.searchsorted(self.keys, line * self.counting.ports + port)])
+def copies_of(counting: Counting, lines: np.ndarray) -> dict[tuple[int, int], int]:
+    """The copies of these lines' frames that left, by line and port."""
+    events, wanted = counting.events, np.zeros(len(counting.place), bool)
+    wanted[lines] = True
+    at = np.flatnonzero(counting.left & wanted[events.line])
+    return dict(zip(zip(events.line[at].tolist(), events.port[at].tolist()), at.tolist()))
 
 
 def way_rows(counting: Counting, checked: Checked) -> list[Row]:
     """A row for each link, receiver and side where a frame left, from the list's arrival on; by
     share of the configured latency, so that late ones come first."""
-    places = Places(counting)
-    rows = [way_row(counting, checked, path, places) for path in counting.paths(is_whole=True)]
+    paths = counting.ways
+    worst = np.array([path.worst for path in paths], np.int64)
+    copies = copies_of(counting, counting.events.line[worst])
+    rows = [way_row(counting, checked, path, copies) for path in paths]
     return sorted(rows, key=lambda row: -row["share"])
 
 
-def way_row(counting: Counting, checked: Checked, path: Path, places: Places) -> Row:
+def way_row(
+    counting: Counting, checked: Checked, path: Path, found: dict[tuple[int, int], int]
+) -> Row:
     """The latencies of a link from end to end, at a receiver on one side. `hops_ns` is what each
-    switch took of the greatest; `slowest` the one that took most of what it may."""
+    switch took of the greatest; `slowest` the one that took most of what it may. The copies of the
+    slowest frame are `found` by line and port."""
     config, line = counting.config, int(counting.events.line[path.worst])
     row = config.row_at(path.link, path.port) or config.links[path.link]
     way = config.way_to(path.link, path.port)
     bound = checked.bound_on(config, path.link, path.port)
     configured, at = config.latency_to(path.link, path.port), at_port(counting, path.port)
-    copies = [places.copy_at(line, port) for port in way]
+    copies = [found[line, port] for port in way]
     hops = {config.switch_of(port): int(counting.latency[n]) for port, n in zip(way, copies)}
     shares = [counting.latency[n] / max(int(counting.configured[n]), 1) for n in copies]
     return {
@@ -81,7 +77,8 @@ def frames_of(counting: Counting, copied: Copied) -> np.ndarray:
 def sent_by(counting: Counting, frames: np.ndarray) -> dict[int, int]:
     """Of each link how many frames its first switch accepted, on either side or on both."""
     arrived = counting.arrived
-    accepted = np.unique(frames[arrived[counting.events.verdict[arrived] == 0]])
+    accepted = np.zeros(len(frames), bool)
+    accepted[frames[arrived[counting.verdicts == 0]]] = True
     counts = np.bincount(counting.place[accepted], minlength=len(counting.vls))
     return {vl: int(counts[place]) for place, vl in enumerate(counting.vls)}
 
