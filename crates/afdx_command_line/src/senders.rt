@@ -17,14 +17,15 @@ use clap::ArgMatches;
 /// The systems at a switch of a configuration are judged, as is asked.
 fn question<'a>(
     rt: &HostRuntime,
-    matches: &ArgMatches<'a>,
+    matches: &ArgMatches<'_>,
     config: &'a [u8],
+    switch: Option<&'a str>,
     choices: &'a Choices,
 ) -> Result<SenderQuestion<'a>, u8> {
     match SenderChoices::new(choices, copies_apart(matches)) {
         Some(asked) => Ok(SenderQuestion {
             config,
-            switch: switch_in(matches),
+            switch,
             asked,
         }),
         None => Err(refuse(rt, matches, Refused::BadNumber)),
@@ -96,7 +97,8 @@ pub fn judge_what_came(
 ) -> Result<u8, u8> {
     let options = taken(rt, matches, came_options(rt.alloc(), matches))?;
     let choices = taken(rt, matches, choices_in(rt.alloc(), matches))?;
-    let question = question(rt, matches, config, &choices)?;
+    let switch = switch_in(matches);
+    let question = question(rt, matches, config, switch, &choices)?;
     match options {
         Some(options) => judge_recording(rt, matches, question, word, options),
         None => judge_list(rt, matches, question, word),
