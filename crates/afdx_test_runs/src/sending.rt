@@ -11,10 +11,10 @@ use std::alloc::Global;
 use std::test::Fail;
 
 /// The status, and what is written, of a configuration, a switch of it, and this list.
-fn judged_at(
+fn judged_at<'a>(
     alloc: Global,
-    config: &str,
-    switch: Option<&str>,
+    config: &'a str,
+    switch: Option<&'a str>,
     came: &str,
 ) -> Result<(u8, ShortText), Fail> {
     let leeway = Leeway::new(0, 0, 0, 0, None).ok_or("a leeway")?;
