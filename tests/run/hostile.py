@@ -22,7 +22,7 @@ from collections.abc import Iterator
 
 sys.dont_write_bytecode = True
 TESTS = os.path.join(os.path.dirname(os.path.abspath(__file__)), "..")
-sys.path[:0] = [os.path.join(TESTS, name) for name in ("lib", "recordings", "conform")]
+sys.path[:0] = [os.path.join(TESTS, name) for name in ("lib", "recordings", "cascades", "conform")]
 import tables as made  # noqa: E402
 from conform_claims import Judge  # noqa: E402
 from conform_terms import SENDERS  # noqa: E402
