@@ -11,12 +11,14 @@ from typing import IO, Iterator, Protocol, cast
 
 import numpy as np
 
+from afdx_tools.lists import LONGEST_LINE
 from afdx_tools.replay.eights import POWERS, digits, fours, places_of, windows
 
 SPACE, LINE_FEED, RETURN = 32, 10, 13
 EACH = 2 << 20  # bytes of text that are looked at together
 TRIM_THRESHOLD, MMAP_THRESHOLD = -1, -3  # options of mallopt
 PADDING = bytes(64)  # what is read after a text, at most
+MOST_EIGHTS = LONGEST_LINE // 8 + 1  # digits of a number, eight at a time
 PORTS = np.zeros(1 << 16, np.int16)  # by the last two bytes of a line: its last number, below 100
 PORTS[np.frombuffer(b"".join(b"%2d" % n for n in range(100)), "<u2")] = range(100)
 PORTS[np.frombuffer(b"".join(b"%02d" % n for n in range(10)), "<u2")] = range(10)
@@ -80,16 +82,21 @@ class Block:
         return self.bytes[places]
 
     def numbers(self, begin: np.ndarray) -> tuple[np.ndarray, np.ndarray]:
-        """The numbers whose digits begin there, and where each ends."""
+        """The numbers whose digits begin there, and where each ends, or is longer than a line that
+        the program takes."""
         values, length = digits(self.eights[begin])
         places = begin + length
-        while isinstance(length, int) and length == 8:  # there may be more
-            more, length = digits(self.eights[places])
+        for _ in range(MOST_EIGHTS):
+            if not isinstance(length, int) or length < 8:
+                break
+            more, length = digits(self.eights[places])  # there may be more
             values *= POWERS[length]
             values += more
             places += length
         left = np.flatnonzero(length == 8)
-        while len(left):
+        for _ in range(MOST_EIGHTS):
+            if not len(left):
+                break
             more, length = digits(self.eights[places[left]])
             values[left] = values[left] * POWERS[length] + more
             places[left] += length
