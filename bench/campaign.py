@@ -9,7 +9,8 @@ and what left it. That comes N times (24 where it isn't given, which is five min
 and 5.1 GB), and each switch has a recording of each network, 16 in all, with a table of taps. So a
 day is some 280 times as much. All are judged with one run at a time, then with C (4).
 Both times are printed by the clock, what the runs took of the processor, and the second time as a
-share of the first. Each run has to conform.
+share of the first. So are those of the longest recording alone, as a whole and in C slices of time,
+whose places are said beforehand. Each run has to conform.
 
 The files are made in a temporary folder, or in FOLDER, which has to be there. They should fit into
 memory beside what else runs: else the disk is measured. Needs /usr/bin/python3 and GNU parallel.
@@ -56,14 +57,32 @@ def used():
     return usage.ru_utime + usage.ru_stime
 
 
-def judged(folder, words, cores):
-    """Judges with so many runs at a time: seconds by the clock, and of the processor."""
-    taps, out = os.path.join(folder, "taps.csv"), os.path.join(folder, f"judged{cores}")
-    campaign = [tool("afdx-campaign"), "--conform", "--jobs", str(cores), "--taps", taps]
+def judged(folder, words):
+    """Judges by a campaign of these words: seconds by the clock, and of the processor."""
+    campaign = [tool("afdx-campaign"), "--conform", "--out", os.path.join(folder, "judged")]
     begin, before = time.monotonic(), used()
-    subprocess.run([*campaign, "--out", out, CONFIG, *words], stdout=subprocess.DEVNULL,
-                   stderr=subprocess.DEVNULL, check=True)  # fmt: skip
+    subprocess.run([*campaign, *words], stdout=subprocess.DEVNULL, stderr=subprocess.DEVNULL,
+                   check=True)  # fmt: skip
     return time.monotonic() - begin, used() - before
+
+
+def tell(one, several, cores):
+    """Prints what a campaign took with one run at a time and with several."""
+    print(f"one run at a time: {one[0]:.1f} s, {one[1]:.1f} s of the processor")
+    print(f"{cores} at a time: {several[0]:.1f} s, {several[1]:.1f} s of the processor")
+    print(f"share: {several[0] / one[0]:.3f}; a {cores}th is {1 / cores:.3f}", flush=True)
+
+
+def measure_slices(folder, word, cores):
+    """Judges one recording as a whole and in so many slices, and prints."""
+    switch, _, path = word.partition("=")
+    print(f"{os.path.basename(path)}, {os.path.getsize(path) / 1e6:,.0f} MB, in slices of time")
+    words = [tool("afdx-taps"), "--conform", "--switch", switch, CONFIG]
+    words += [os.path.join(folder, "taps.csv"), path]
+    places = subprocess.run(words, stdout=subprocess.PIPE, stderr=subprocess.DEVNULL, check=True)
+    given = [f"--switch={switch}", *places.stdout.decode().split(), CONFIG, path]
+    one = judged(folder, given)
+    tell(one, judged(folder, [f"--slices={cores}", f"--jobs={cores}", *given]), cores)
 
 
 def measure(folder, times, cores):
@@ -71,11 +90,11 @@ def measure(folder, times, cores):
     words = make(folder, times)
     size = sum(os.path.getsize(word.partition("=")[2]) for word in words)
     print(f"{len(words)} recordings, {size / 1e6:,.0f} MB")
-    one, of_one = judged(folder, words, 1)
-    print(f"one run at a time: {one:.1f} s, {of_one:.1f} s of the processor", flush=True)
-    several, of_several = judged(folder, words, cores)
-    print(f"{cores} at a time: {several:.1f} s, {of_several:.1f} s of the processor")
-    print(f"share: {several / one:.3f}; a {cores}th is {1 / cores:.3f}")
+    given = ["--taps", os.path.join(folder, "taps.csv"), CONFIG, *words]
+    one = judged(folder, ["--jobs=1", *given])
+    tell(one, judged(folder, [f"--jobs={cores}", *given]), cores)
+    longest = max(words, key=lambda word: os.path.getsize(word.partition("=")[2]))
+    measure_slices(folder, longest, cores)
 
 
 def main():

@@ -54,7 +54,7 @@ def row_of(bench, row, lines):
     words, make = words_of(bench, ports, kind, options)
     make(bench.path("long.list"), frames)
     beside = 0 if kind == ONE else os.path.getsize(words[-1])
-    return bench.rows([(name, words)], frames, make, FEW, beside)[0]
+    return bench.row(name, words, frames, make, FEW, beside)
 
 
 def policed(bench):
@@ -73,7 +73,7 @@ def policed(bench):
     return taken[1] - (taken[4] - taken[1]) / 3
 
 
-def show_senders(bench, lines, empty):
+def show_senders(bench, lines):
     """The row of senders; the line of what a frame takes."""
     config, path = bench.path("judged.toml"), bench.path("long.list")
 
@@ -82,15 +82,15 @@ def show_senders(bench, lines, empty):
 
     make(path, lines)
     words = [bench.program, "conform", "--senders", config]
-    measured = bench.rows([(SENDERS, words)], lines, make, FEW, 0)[0]
-    bench.show(measured, *empty)
+    measured = bench.row(SENDERS, words, lines, make, FEW)
+    bench.show(measured)
     if measured.instructions is None:
         return []
     times = measured.instructions / policed(bench)
     return [f"{SENDERS}: {times:.2f} times what `replay` takes to read, check and police a frame"]
 
 
-def show_conform(bench, only, lines, empty):
+def show_conform(bench, only, lines):
     """The rows with this text in their names; the lines of what a frame takes, which are printed
     last."""
     told, judged = [], 0.0
@@ -99,7 +99,7 @@ def show_conform(bench, only, lines, empty):
         if only not in name or (kind != LISTS and not told_by(bench.program, "--left")):
             continue
         measured = row_of(bench, row, lines)
-        bench.show(measured, *empty)
+        bench.show(measured)
         if measured.instructions is None:
             continue
         times = measured.instructions / (bench.line_of_64() * (1 + ports))
@@ -108,7 +108,7 @@ def show_conform(bench, only, lines, empty):
         times = measured.instructions / ports / (2 * judged)
         told.append(f"{name}: at each port {times:.2f} times {POLICED}")
     if only in SENDERS and told_by(bench.program, "--senders"):
-        told += show_senders(bench, lines, empty)
+        told += show_senders(bench, lines)
     return told
 
 

@@ -2,6 +2,7 @@
 
 For the scripts beside it.
 """
+import filecmp
 import os
 import re
 import shutil
@@ -39,6 +40,32 @@ def timed(words, given, taken, note, statuses=(0,), told=None):
         with open(note, encoding="ascii") as text:
             memory = int(text.read().split()[-1])
     return Run(usage.ru_utime + usage.ru_stime, usage.ru_utime, memory)
+
+
+def print_the_same(words, others, folder):
+    """Does another program take its words? If it does, both must print the same, but that the last
+    line of one may have more words."""
+    ours, theirs = (os.path.join(folder, name) for name in ("ours", "theirs"))
+    with open(theirs, "wb") as out:
+        status = subprocess.run(others, stdout=out, stderr=subprocess.DEVNULL).returncode
+    if not status:
+        with open(ours, "wb") as out:
+            subprocess.run(words, stdout=out, check=True)
+        if not filecmp.cmp(ours, theirs, shallow=False) and not is_longer(ours, theirs):
+            sys.exit(f"{' '.join(words)}: the two programs don't print the same")
+        os.unlink(ours)
+    os.unlink(theirs)
+    return not status
+
+
+def is_longer(*paths):
+    """The text of one of two files is that of the other, with more words in its last line."""
+    texts = []
+    for path in paths:
+        with open(path, "rb") as file:
+            texts.append(file.read().removesuffix(b"\n"))
+    short, long = sorted(texts, key=len)
+    return long.startswith(short + b" ") and b"\n" not in long[len(short) :]
 
 
 class Counts(NamedTuple):

@@ -1,7 +1,7 @@
 """Measures `afdx police`, `afdx replay`, `afdx send` and `afdx conform` on long lists.
 
-    bench/run.py [PROGRAM] [--lines N] [--times T] [--only TEXT] [--baseline] [--misses]
-                 [--scaling | --short]
+    bench/run.py [PROGRAM] [--lines N] [--times T] [--only TEXT] [--baseline | --beside OTHER]
+                 [--misses] [--scaling | --short]
 
 PROGRAM is the built program, crates/afdx/out/afdx where it isn't given. The lists have N lines
 (1,000,000 where it isn't given), but at most about 500 MB, and are made in a temporary folder by
@@ -26,9 +26,12 @@ several switches that it passes, and how many times as much as lines of `police`
 checking and policing in `replay`, the lines take of a frame that came and left.
 
 With --baseline the hand-written C program bench/handwritten/police_baseline.c is compiled by
-`cc -O2`, must print the same as `police`, and stands in the table beside it. Both run by turns, and
-two more columns say how the program compares with it: the ratio of the instructions, and that of
-the user seconds, the median of the T turns. A ratio below 1 means that the program takes less.
+`cc -O2`, and measured beside `police`; with --beside OTHER the program at that path beside each
+row, with the same words. It must print the same, but for words at the end of the last line; where
+it doesn't take the words it isn't measured.
+Both run by turns, and two more columns say how the program compares with it: the ratio of the
+instructions, and that of the user seconds, the median of the T turns. A ratio below 1 means that
+the program takes less.
 
 With --misses two more columns say how many reads and writes of a line miss a cache of 1 MiB, as
 callgrind reckons them.
@@ -42,7 +45,6 @@ Needs Linux and Python 3, no packages; with /usr/bin/time the figure for memory 
 alone. It is a measurement and no test: it fails only where a run fails or the two programs differ.
 """
 import argparse
-import filecmp
 import os
 import subprocess
 import sys
@@ -56,7 +58,7 @@ from make_list import MOST_LINES, write_list  # noqa: E402
 from make_messages import write_messages  # noqa: E402
 from make_network import write_network  # noqa: E402
 from make_recording import write_recording  # noqa: E402
-from measure import HERE, PROGRAM, counted, timed  # noqa: E402
+from measure import HERE, PROGRAM, counted, print_the_same, timed  # noqa: E402
 from short_rows import show_short  # noqa: E402
 from table import HEAD, MISSES, RATIOS, Row, head, show  # noqa: E402
 
@@ -98,13 +100,16 @@ CASCADE = "replay, 8 switches a side, 984 links on ways of 1 to 4 switches"
 TENTH = "the same, a tenth of the lines"
 FURTHER = 22  # copies of a frame in the row `copies` beyond that in the row `one`
 SEND = "send, 20 links of one system"
-BY_HAND = "the same by hand-written C"
 
 
 class Bench:
+    """What is measured: a program, and where they are given one that polices a list as
+    `C BAG LMAX JITTER LIST`, or another that takes the same words."""
+
     def __init__(self, given, folder):
         self.program, self.times, self.folder = os.path.abspath(given.program), given.times, folder
-        self.misses = given.misses
+        self.misses, self.baseline = given.misses, None
+        self.other = os.path.abspath(given.beside) if given.beside else None
 
     def path(self, name):
         return os.path.join(self.folder, name)
@@ -135,23 +140,43 @@ class Bench:
         fewer, most = counts
         return None if fewer is None or most is None else most.line(fewer, FEW)
 
-    def show(self, row, *more):
-        """Prints a row, and more cells."""
-        show([*row.cells(), *(row.misses() if self.misses else []), *more])
+    def head(self):
+        """Prints the head of the table."""
+        is_beside = self.baseline or self.other
+        head([*HEAD, *(MISSES if self.misses else []), *(RATIOS if is_beside else [])])
 
-    def rows(self, programs, count, make, first=0, beside=0):
-        """A row for each program, a name and its words, on the long list of so many lines. Those of
-        the first lines don't count as instructions; so many bytes are read beside it."""
+    def show(self, row):
+        """Prints a row."""
+        is_beside = self.baseline or self.other
+        misses = row.misses() if self.misses else []
+        show([*row.cells(), *misses, *(row.ratios() if is_beside else [])])
+
+    def beside(self, words):
+        """The words of the other program, where it takes them and prints the same of the long list;
+        else none."""
+        if self.baseline and words[1] == "police":
+            others = [self.baseline, *words[2:]]
+        elif self.other:
+            others = [self.other, *words[1:]]
+        else:
+            return []
         listing = self.path("long.list")
-        size = os.path.getsize(listing) + beside
-        all_runs = self.by_turns(*([*words, listing] for _, words in programs))
-        return [
-            Row(name, count, size, runs, self.a_line(make, words, first))
-            for (name, words), runs in zip(programs, all_runs)
-        ]
+        is_same = print_the_same([*words, listing], [*others, listing], self.folder)
+        return others if is_same else []
 
-    def police(self, name, options, lines, baseline):
-        """The row of `police`, and where there is a baseline its row too."""
+    def row(self, name, words, count, make, first=0, beside=0):
+        """The row of some words on the long list of so many lines. Those of the first lines don't
+        count as instructions; so many bytes are read beside it."""
+        listing, others = self.path("long.list"), self.beside(words)
+        both = [each for each in (words, others) if each]
+        all_runs = self.by_turns(*([*each, listing] for each in both))
+        size, found = os.path.getsize(listing) + beside, None
+        for each, runs in reversed([*zip(both, all_runs)]):
+            found = Row(name, count, size, runs, self.a_line(make, each, first), found)
+        return found
+
+    def police(self, name, options, lines):
+        """The row of `police`."""
         length = options.get("length", 64)
         count = min(lines, MOST_BYTES // (2 * length + 20))
 
@@ -159,12 +184,8 @@ class Bench:
             write_list(path, count, **options)
 
         make(self.path("long.list"), count)
-        rule = ["1", str(max(length, 64)), "500"]
-        programs = [(name, [self.program, "police", *rule])]
-        if baseline:
-            programs.append((BY_HAND, [baseline, *rule]))
-            self.compare([words for _, words in programs])
-        return self.rows(programs, count, make)
+        words = [self.program, "police", "1", str(max(length, 64)), "500"]
+        return self.row(name, words, count, make)
 
     def recording(self, name, form, length, options, lines):
         """The row of `police` on a recording."""
@@ -176,16 +197,7 @@ class Bench:
         make(self.path("long.list"), count)
         words = [self.program, "police", *options, "1", str(length), "500"]
         first = FEW if options is HELD else 0  # so many are held, and more
-        return self.rows([(name, words)], count, make, first)[0]
-
-    def compare(self, both):
-        """Both programs must print the same of the long list."""
-        ours, theirs = self.path("ours"), self.path("theirs")
-        for words, copy in zip(both, (ours, theirs)):
-            with open(copy, "w", encoding="ascii") as out:
-                subprocess.run([*words, self.path("long.list")], stdout=out, check=True)
-        if not filecmp.cmp(ours, theirs, shallow=False):
-            sys.exit("the two programs print different verdicts")
+        return self.row(name, words, count, make, first)
 
     def network(self, kind, is_admitted, lines, links=None):
         """Writes a network and its list; gives the words that replay it."""
@@ -201,7 +213,7 @@ class Bench:
         def make(path, count):
             write_network(kind, self.path("few.toml"), path, count)
 
-        return self.rows([(name, words)], lines, make)[0]
+        return self.row(name, words, lines, make)
 
     def cascade(self, lines):
         """The rows of several switches a side: all lines, and a tenth; and the instructions of a
@@ -216,7 +228,7 @@ class Bench:
         runs = self.by_turns([*words, listing])[0]
         tenth = Row(TENTH, lines // 10, os.path.getsize(listing), runs, None)
         write_cascade(config, listing, lines)
-        row = self.rows([(CASCADE, words)], lines, make)[0]
+        row = self.row(CASCADE, words, lines, make)
         hop = None if row.instructions is None else row.instructions * FEW / hops[0]
         return [row, tenth], hop
 
@@ -227,7 +239,7 @@ class Bench:
         def make(path, count):
             write_messages(self.path("few.toml"), path, count)
 
-        return self.rows([(SEND, [self.program, "send", config, "s1"])], lines, make)[0]
+        return self.row(SEND, [self.program, "send", config, "s1"], lines, make)
 
     def line_of_64(self):
         """The instructions of a line of `police`."""
@@ -252,9 +264,11 @@ def read_words():
     words.add_argument(
         "--only", metavar="TEXT", default="", help="measure the rows with TEXT in their names"
     )
-    words.add_argument(
+    beside = words.add_mutually_exclusive_group()
+    beside.add_argument(
         "--baseline", action="store_true", help="measure the hand-written C program too"
     )
+    beside.add_argument("--beside", metavar="OTHER", help="measure the program at this path too")
     words.add_argument(
         "--misses", action="store_true", help="count what misses a cache of 1 MiB, too"
     )
@@ -270,20 +284,20 @@ def read_words():
         words.error(
             f"there is no program at {given.program}: build it first, by bin/afdx --version"
         )
+    if given.beside and not os.access(given.beside, os.X_OK):
+        words.error(f"there is no program at {given.beside}")
+    if given.beside and (given.scaling or given.short):
+        words.error("--beside is for the table of all rows")
     return given
 
 
-def show_police(bench, given, baseline):
-    """The rows of `police`, with the ratios where there is a baseline; the rows by their names."""
+def show_police(bench, given):
+    """The rows of `police`, by their names."""
     by_name = {}
     for name, options in POLICE:
         if given.only in name:
-            ours, *others = bench.police(name, options, given.lines, baseline)
-            by_name[name] = ours
-            ratios = ours.ratios(others[0]) if others else []
-            bench.show(ours, *ratios)
-            for theirs in others:
-                bench.show(theirs, *("" for _ in ratios))
+            by_name[name] = bench.police(name, options, given.lines)
+            bench.show(by_name[name])
     return by_name
 
 
@@ -293,7 +307,7 @@ def knows(program, option):
     return option in told.stdout
 
 
-def show_recorded(bench, given, empty):
+def show_recorded(bench, given):
     """The rows of recordings, each with the name of its list's row."""
     rows, orders = [], knows(bench.program, b"--reorder")
     for name, form, length, options, listed in RECORDED:
@@ -301,7 +315,7 @@ def show_recorded(bench, given, empty):
             options = [*options, "--reorder=0"]
         if given.only in name and (options is not HELD or orders):
             rows.append((bench.recording(name, form, length, options, given.lines), listed))
-            bench.show(rows[-1][0], *empty)
+            bench.show(rows[-1][0])
     return rows
 
 
@@ -314,23 +328,23 @@ def show_shares(recorded, by_name):
             print(f"\n{row.name}: {share:.0%} of the instructions of a list's line")
 
 
-def show_replay(bench, given, empty):
+def show_replay(bench, given):
     """The rows of `replay`, and what a further copy takes."""
     by_kind = {}
     for name, kind, is_admitted in REPLAY:
         if given.only in name:
             by_kind[kind] = bench.replay(name, kind, is_admitted, given.lines)
-            bench.show(by_kind[kind], *empty)
+            bench.show(by_kind[kind])
     return by_kind
 
 
-def show_cascade(bench, given, empty):
+def show_cascade(bench, given):
     """The rows of several switches a side; the line of a hop, which is printed last."""
     if given.only not in CASCADE:
         return ""
     rows, hop = bench.cascade(given.lines)
     for row in rows:
-        bench.show(row, *empty)
+        bench.show(row)
     return "" if hop is None else f"A frame through a switch of several: {hop:,.0f} instructions"
 
 
@@ -350,22 +364,21 @@ def main():
         if given.scaling:
             show_growth(bench, given.lines)
             return
-        built, empty = None, []
         if given.baseline or given.short:
-            built, empty = bench.path("police_baseline"), ["" for _ in RATIOS]
-            subprocess.run(["cc", "-O2", "-o", built, BASELINE], check=True)
+            bench.baseline = bench.path("police_baseline")
+            subprocess.run(["cc", "-O2", "-o", bench.baseline, BASELINE], check=True)
         if given.short:
-            show_short(bench, given.lines, built)
+            show_short(bench, given.lines)
             return
-        head([*HEAD, *(MISSES if given.misses else []), *(RATIOS if built else [])])
-        by_name, recorded = show_police(bench, given, built), []
+        bench.head()
+        by_name, recorded = show_police(bench, given), []
         if knows(bench.program, b"--interface"):
-            recorded = show_recorded(bench, given, empty)
-        by_kind = show_replay(bench, given, empty)
-        told = show_cascade(bench, given, empty)
+            recorded = show_recorded(bench, given)
+        by_kind = show_replay(bench, given)
+        told = show_cascade(bench, given)
         if given.only in SEND:
-            bench.show(bench.send(given.lines), *empty)
-        judged = show_conform(bench, given.only, given.lines, empty)
+            bench.show(bench.send(given.lines))
+        judged = show_conform(bench, given.only, given.lines)
         show_shares(recorded, by_name)
         if {"one", "copies"} <= set(by_kind):
             show_copies(by_kind["one"], by_kind["copies"])

@@ -22,21 +22,19 @@ def short_cells(name, row):
     return [name, count, f"{row.user / row.lines * 1e6:.1f} s"]
 
 
-def beside(row, other):
+def beside(row):
     """How it compares with the program by hand."""
-    turns = row.turns(other)
-    ratio = "-"
-    if row.instructions is not None and other.instructions:
-        ratio = f"{row.instructions / other.instructions:.2f} times"
-    return [ratio, spread(turns) if turns else "-"]
+    turns, ratio = row.turns(), row.ratio()
+    told = "-" if ratio is None else f"{ratio:.2f} times"
+    return [told, spread(turns) if turns else "-"]
 
 
-def show_short(bench, lines, baseline):
+def show_short(bench, lines):
     """The table."""
     head(HEAD)
     for length, told in ((64, "64 bytes"), (1518, "1,518 bytes")):
-        ours, theirs = bench.police("police", {"length": length}, lines, baseline)
-        show([*short_cells(f"`police`, {told}", ours), *beside(ours, theirs)])
+        row = bench.police("police", {"length": length}, lines)
+        show([*short_cells(f"`police`, {told}", row), *beside(row)])
     for kind, told in (("aircraft", "400 links"), ("gigabit", "4,096 links")):
         row = bench.replay("replay", kind, True, lines)
         show([*short_cells(f"`replay`, 24 systems, {told}", row), "", ""])

@@ -15,7 +15,7 @@ HEAD = [
     "peak memory",
     "instructions a line",
 ]
-RATIOS = ["instructions to C", "user CPU to C"]
+RATIOS = ["instructions to the other", "user CPU to the other"]
 MISSES = ["reads that miss", "writes that miss"]
 
 
@@ -27,6 +27,7 @@ class Row(NamedTuple):
     size: int
     runs: list[Run]
     counts: Optional[Counts]
+    other: Optional["Row"] = None  # what another program took, whose runs took turns with these
 
     @property
     def seconds(self):
@@ -59,15 +60,22 @@ class Row(NamedTuple):
             "-" if self.instructions is None else f"{self.instructions:,.0f}",
         ]
 
-    def turns(self, other):
-        """The ratios of user seconds to those of another program, whose runs took turns."""
-        return [one.user / two.user for one, two in zip(self.runs, other.runs) if two.user]
+    def turns(self):
+        """The ratios of user seconds to those of the other program."""
+        both = zip(self.runs, self.other.runs) if self.other else ()
+        return [one.user / two.user for one, two in both if two.user]
 
-    def ratios(self, other):
-        """How it compares with another program's row, whose runs took turns with these."""
-        turns = self.turns(other)
+    def ratio(self):
+        """That of the instructions, where they were counted."""
+        if self.other is None or not self.instructions or not self.other.instructions:
+            return None
+        return self.instructions / self.other.instructions
+
+    def ratios(self):
+        """How it compares with the other program."""
+        ratio, turns = self.ratio(), self.turns()
         return [
-            f"{self.instructions / other.instructions:.2f}" if self.instructions else "-",
+            "-" if ratio is None else f"{ratio:.2f}",
             f"{statistics.median(turns):.2f}" if turns else "-",
         ]
 

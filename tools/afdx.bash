@@ -208,10 +208,10 @@ _afdx_takes() { # COMMAND : its options, and those that take a value
             options=(--help --version --out --no-admission --pages --jobs --resume --sshlogin \
                 --transfer --interface --taps --fcs --origin --reorder --stamps --fail-on --junit \
                 --conform --slack --between --drift --inner --asked --until --leave-out --switch \
-                --left --lossy --exercised --from)
+                --left --lossy --exercised --from --slices)
             valued=(--out -j --jobs -S --sshlogin --interface --taps --fcs --origin --reorder \
                 --stamps --fail-on --junit --slack --between --drift --inner --asked --until \
-                --leave-out --switch --left --from)
+                --leave-out --switch --left --from --slices)
             ;;
         'afdx-capture list')
             options=(--help --config --interface --taps --fcs --origin --reorder --stamps --out \

@@ -60,9 +60,9 @@ end
 # printed by bin/pages
 set -g __afdx_valued --slack --between --drift --inner --asked --from --until --leave-out --switch \
     --apart --interface --left --fcs --reorder --stamps --origin --vl --port --lmin --policing \
-    --keep --out -j --jobs -S --sshlogin --taps --fail-on --junit --config -o --split --side \
-    --conform --cables --profile --reserve --since --link --rows --worst --compare --title --cover \
-    --seconds --seed
+    --keep --out -j --jobs -S --sshlogin --taps --fail-on --junit --slices --config -o --split \
+    --side --conform --cables --profile --reserve --since --link --rows --worst --compare --title \
+    --cover --seconds --seed
 
 complete -c afdx -f
 complete -c afdx -n '__afdx_at - 0 0' -l help -d 'Print help and leave'
@@ -93,7 +93,7 @@ complete -c afdx -n '__afdx_in conform' -x -l leave-out -d 'The link'
 complete -c afdx -n '__afdx_in conform' -l exercised \
     -d 'Says \'undecided\' if of a link at an output port that was recorded no frame is explained'
 complete -c afdx -n '__afdx_in conform' -x -l switch -d 'The name of the switch that is judged'
-complete -c afdx -n '__afdx_in conform' -l senders -d 'Judges the systems by what they sent'
+complete -c afdx -n '__afdx_in conform' -l senders -d 'Judges the systems by what they sent, too'
 complete -c afdx -n '__afdx_in conform' -x -l apart \
     -d 'By how many ns later the copy of a frame may be sent'
 complete -c afdx -n '__afdx_in conform' -x -l interface \
@@ -258,6 +258,7 @@ complete -c afdx-campaign -x -l left -d 'where the frames of interface K left'
 complete -c afdx-campaign -l lossy -d 'also where the recorder lost frames'
 complete -c afdx-campaign -l exercised -d 'no verdict where a stream that is judged is idle'
 complete -c afdx-campaign -x -l from -d 'what came before this is passed over'
+complete -c afdx-campaign -x -l slices -d 'judge each recording in so many slices of time'
 complete -c afdx-campaign -n '__afdx_at - 0 0' -a '(__afdx_files toml)'
 complete -c afdx-campaign -n '__afdx_at - 1 1000000' -a '(__afdx_files list pcap pcapng)'
 
@@ -396,8 +397,8 @@ complete -c afdx-taps -f
 complete -c afdx-taps -l help -d 'show this help message and exit'
 complete -c afdx-taps -l version -d 'print the version and leave'
 complete -c afdx-taps -l anyway -d 'print the words also where they don\'t agree'
-complete -c afdx-taps -l conform -d 'print the words of \'afdx conform\''
-complete -c afdx-taps -l senders -d 'with --conform'
+complete -c afdx-taps -l conform -d 'print the words by which \'afdx conform\' judges a switch'
+complete -c afdx-taps -l senders -d 'those by which it judges the systems by what they sent'
 complete -c afdx-taps -x -l switch -d 'which of several switches is judged'
 complete -c afdx-taps -n '__afdx_at - 0 0' -a '(__afdx_files toml)'
 complete -c afdx-taps -n '__afdx_at - 1 1' -a '(__afdx_files csv)'

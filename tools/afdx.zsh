@@ -55,7 +55,7 @@ _afdx_takes() { # COMMAND
             '*--leave-out=[The link]:vl:' \
             '--exercised[Says '\''undecided'\'' if of a link at an output port that was recorded no frame is explained]' \
             '--switch=[The name of the switch that is judged]:name:' \
-            '--senders[Judges the systems by what they sent]' \
+            '--senders[Judges the systems by what they sent, too]' \
             '--apart=[By how many ns later the copy of a frame may be sent]:ns:' \
             '*--interface=[Where the frames of interface K came in]:k=place:' \
             '*--left=[Where the frames of interface K left]:k=place:' \
@@ -177,6 +177,7 @@ _afdx_takes() { # COMMAND
             '--lossy[also where the recorder lost frames]' \
             '--exercised[no verdict where a stream that is judged is idle]' \
             '--from=[what came before this is passed over]:ns:' \
+            '--slices=[judge each recording in so many slices of time]:n:' \
             ':config:_files -g "*.toml(-.)"' \
             '*:list:_files -g "*.(list|pcap|pcapng)(-.)"'
         ;;
@@ -282,8 +283,8 @@ _afdx_takes() { # COMMAND
         _arguments $help \
             $version \
             '--anyway[print the words also where they don'\''t agree]' \
-            '--conform[print the words of '\''afdx conform'\'']' \
-            '--senders[with --conform]' \
+            '--conform[print the words by which '\''afdx conform'\'' judges a switch]' \
+            '--senders[those by which it judges the systems by what they sent]' \
             '--switch=[which of several switches is judged]:name:' \
             ':config:_files -g "*.toml(-.)"' \
             ':taps:_files -g "*.csv(-.)"' \

@@ -3,7 +3,7 @@ from __future__ import annotations
 
 import random
 import threading
-from typing import NamedTuple
+from typing import Callable, NamedTuple
 
 import tables as made
 from conform import Judging, Taken, conform
@@ -166,9 +166,11 @@ def any_options(chance: random.Random) -> Options:
     return Options(slack=slack, between=between, drift=drift, inner=inner, asked=asked)
 
 
-def nothing_found(judge: Judge, pair: Pair) -> None:
+def nothing_found(
+    judge: Judge, pair: Pair, asked: Callable[[Judge, Pair], Answer] = Judge.answer
+) -> None:
     """No finding, and none that couldn't be told."""
-    answer = judge.answer(pair)
+    answer = asked(judge, pair)
     last = answer.out.decode().split(" ")[0]
     told = answer.out[:300], answer.err[:300], pair.words
     must(answer.status in (0, 3) and last in ("conforms", "undecided"), f"{told}")

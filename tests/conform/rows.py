@@ -24,7 +24,8 @@ HEADS = {
 }
 HEADS["9"] = HEADS["1"][:10] + "09" + HEADS["1"][12:]
 HEADS["3"] = HEADS["2"][:10] + "03" + HEADS["2"][12:]
-STATUSES = {"words": 2, "config": 1, "list": 3, "recording": 3, "": 0}  # by a fault's first word
+# by a fault's first word
+STATUSES = {"words": 2, "config": 1, "admit": 1, "list": 3, "recording": 3, "": 0}
 NO_LINK = "ff" * 6 + "00" * 54
 STREAMS = 4  # of the base tables: two links, of one output port each, on both sides
 # a line of a frame that is of no stream

@@ -3,10 +3,14 @@ from __future__ import annotations
 
 import random
 
+from beside_rows import BESIDE_RECORDED, BESIDE_ROWS, BesideRecorded, BesideRow
 from conform_claims import FILES, Judge
 from conform_terms import SENDERS, Options
 from frames import raw_line, sealed
 from program import Answer, answers, must
+from recorded_cases import RecordedCase
+from recorded_claims import answer_to
+from rows import CONFIGS
 from sender_made import KINDS_AMISS, SIDES, Recording, amiss, is_right, right, small
 from sender_made import small_recording
 from sender_rows import SENDER_CONFIGS, SENDER_ROWS, SenderRow, list_of
@@ -16,7 +20,8 @@ BASE = SENDER_CONFIGS["base"]
 # of several switches those at whose fwd link 1's system stands, at port 1
 AT_FWD = ("two", "wide", "near", "slow")
 PORTS = (1, 1, 1, 1, 2, 3, 5, 24)  # where a frame comes in that is moved
-OUTPUT, WIRE = 3, 6_720  # where the frames of link 1 leave, and how long that takes
+# where the frames of link 1 leave, at a switch of several too, and how long that takes
+OUTPUT, CABLE, WIRE = 3, 24, 6_720
 ALONE = "what they sent: CAME alone"  # of a program's help, where it judges no streams beside
 NOTHING = " explained 0 open 0 uncertain 0 left-out 0 unseen 4 idle 0 "
 # of each option that is given, by its word
@@ -39,6 +44,20 @@ def sender_row_holds(judge: Judge, row: SenderRow) -> None:
     wanted = row.answer()
     found = answer_of(judge, list_of(row.came), None, row.words(), SENDER_CONFIGS[row.config])
     answers(found, wanted.status, wanted.out, wanted.err)
+
+
+def beside_row_holds(judge: Judge, row: BesideRow) -> None:
+    """It answers as the row spells out of a switch and its systems."""
+    wanted, came, left = row.answer(), list_of(row.came), list_of(row.left)
+    found = answer_of(judge, came, left, row.words(), SENDER_CONFIGS[row.config])
+    answers(found, wanted.status, wanted.out, wanted.err)
+
+
+def beside_recorded_holds(judge: Judge, each: BesideRecorded) -> None:
+    """The same of recordings."""
+    row, wanted = each.row, each.answer()
+    case = RecordedCase(CONFIGS[row.config], row.inputs(), row.words())
+    answers(answer_to(judge, case), wanted.status, wanted.out, wanted.err)
 
 
 def words_of(options: Options) -> tuple[str, ...]:
@@ -122,10 +141,10 @@ def changed(chance: random.Random, made: Recording) -> bytes:
     return b"".join(b" ".join(fields) + b"\n" for fields in lines)
 
 
-def left_of(came: bytes) -> bytes:
+def left_of(came: bytes, port: int) -> bytes:
     """What leaves a switch that passes all of it to one port."""
     lines = [line.split(b" ") for line in came.splitlines()]
-    return b"".join(b"%s %d %s %d %s\n" % (kind, int(time) + WIRE, side, OUTPUT, digits)
+    return b"".join(b"%s %d %s %d %s\n" % (kind, int(time) + WIRE, side, port, digits)
                     for kind, time, side, _, digits in lines)
 
 
@@ -137,11 +156,12 @@ def senders_alike(judge: Judge, seed: int, count: int) -> None:
         chance = random.Random(f"{seed} {case} senders")
         made = right(chance)
         came, words = changed(chance, made), words_of(made.options)
-        left = left_of(came) if chance.random() < 0.3 and not is_alone else None
         words += ("--leave-out", "2") if chance.random() < 0.1 else ()
-        config = BASE
-        if left is None and chance.random() < 0.3:
+        config, port = BASE, OUTPUT
+        if chance.random() < 0.3:
             config, words = SENDER_CONFIGS[chance.choice(AT_FWD)], (*words, "--switch", "fwd")
+            port = CABLE
+        left = left_of(came, port) if chance.random() < 0.4 and not is_alone else None
         wanted = conform_senders(config, came, left, words)
         found |= {line.split()[0] for line in wanted.out.decode().splitlines()}
         answers(answer_of(judge, came, left, words, config), wanted.status, wanted.out, wanted.err)
@@ -149,10 +169,23 @@ def senders_alike(judge: Judge, seed: int, count: int) -> None:
                                   "conforms", "deviates"}, f"only {found}")
 
 
+def beside_cases(judge: Judge, who: str) -> list[tuple]:
+    """What a judge must answer of a switch and its systems, if it judges both."""
+    if judge.program is not None and judge.program.knows("conform", ALONE):
+        return []
+    cases: list[tuple] = [(f"{who}, beside its systems: {row.name}", beside_row_holds, judge, row)
+                          for row in BESIDE_ROWS]
+    if judge.program is not None:
+        cases += [(f"{who}, beside its systems: {each.row.name}", beside_recorded_holds, judge,
+                   each) for each in BESIDE_RECORDED]
+    return cases
+
+
 def sender_cases(judge: Judge, who: str, seeds: range, count: int) -> list[tuple]:
     """What a judge must answer of senders."""
     cases: list[tuple] = [(f"{who}, senders: {row.name}", sender_row_holds, judge, row)
                           for row in SENDER_ROWS]
+    cases += beside_cases(judge, who)
     cases.append((f"{who}, senders: one thing amiss", amiss_is_found, judge))
     for seed in seeds:
         cases.append((f"{who}, senders: right ones, {seed}", right_senders_conform, judge, seed,

@@ -106,10 +106,24 @@ class SenderRow(NamedTuple):
         return Answer(status, "".join(lines).encode(), err)
 
 
+def far_apart(count: int, late: int) -> str:
+    """A right sender at its full rate, a frame a ms, whose copies on B are so many ms late. The
+    recordings end with the last frame on A."""
+    lines = [(ms, f"{ms}000000 {after(ms):02x}") for ms in range(count)]
+    lines += [(ms, f"{ms}000000 {after(ms - late):02x} B") for ms in range(late, count)]
+    return " / ".join(line for _, line in sorted(lines, key=lambda one: one[0]))
+
+
+def after(steps: int) -> int:
+    """The sequence number to which so many steps lead from 0."""
+    return (steps - 1) % 255 + 1 if steps else 0
+
+
 BEGUN, STEADY = "--from 5 --until 3000000", "--drift 1000"
 HEADER, FRAGMENT = "G1+>20=20", "G1+>20=20000111adea"
 FWD, AFT = "--switch fwd", "--switch aft"
 ONE_SWITCH_ROWS = (
+    SenderRow("copies are late by 90 ms", "--apart 100000000", far_apart(201, 90), "", "312/90/0"),
     SenderRow("both at one time", "", "0 00 / 0 00 B", "", "2/0/0"),
     SenderRow("the copy may be behind the end", "--until 988759", "0 00", "", "1/1/0"),
     SenderRow("the copy isn't behind the end", "--until 988760", "0 00", "single 1 A 1", "0/0/0"),

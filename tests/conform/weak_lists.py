@@ -1,13 +1,18 @@
-"""`conform` on two lists, one of which is weak; a part of tests/run/devices.py."""
+"""`conform` on two lists, one of which is weak, with and without `--senders`; a part of
+tests/run/devices.py."""
 from __future__ import annotations
 
 from collections.abc import Iterator
 
+from beside_rows import BESIDE_ROWS, BesideRow
 from conform import conform
 from conform_claims import pair_of
 from hostile_lists import LISTS
 from program import Program
 from rows import CONFIGS, ROWS, list_of
+from sender_rows import SENDER_CONFIGS
+from sender_rows import list_of as sent_by
+from senders import conform_senders
 from small_cases import Pair
 from weak import BEYOND, Call, WeakOfTwo, large_texts, many_writes, weak_devices
 
@@ -17,6 +22,12 @@ TRIED = (  # rows of each ending, with lines that are told before the end and at
     "all orders at one moment", "links that are left out", "a bad line", "times that go back",
     "told before what is passed over", "a bad line behind what is told", "nothing at all",
     "a switch of two",
+)
+
+TRIED_BESIDE = (  # the same of a switch and its systems
+    "systems before the switch, by moment", "the switch before systems, by moment",
+    "at one port systems first", "a switch of several and its systems",
+    "a bad line of what left", "a bad line of what came",
 )
 
 
@@ -34,6 +45,10 @@ class WeakList(WeakOfTwo):
             text[: text.rfind(b"\n") + 1] + BEYOND if is_open else text
             for text, is_open in zip(pair, are_open)
         )
+        return self.written(came, left)
+
+    def written(self, came: bytes, left: bytes) -> bytes:
+        """What is written of these lists."""
         return conform(self.judged.config, came, left, self.judged.words).out
 
     def lines_before(self, count: int, at_once: bool = False) -> bytes:
@@ -45,9 +60,24 @@ class WeakList(WeakOfTwo):
         return self.text_of(*self.read_by(reads))
 
 
-def weak_list(program: Program, pair: Pair, place: int, by_path: bool) -> None:
+class WeakBeside(WeakList):
+    """The same of a switch and its systems, in one run."""
+
+    def written(self, came: bytes, left: bytes) -> bytes:
+        """What is written of these lists."""
+        return conform_senders(self.judged.config, came, left, self.judged.words).out
+
+
+def weak_list(
+    program: Program, pair: Pair, place: int, by_path: bool, judge: type[WeakList] = WeakList
+) -> None:
     """All that weak devices do to one of two lists."""
-    weak_devices(WeakList(program, pair, place, by_path))
+    weak_devices(judge(program, pair, place, by_path))
+
+
+def pair_beside(row: BesideRow) -> Pair:
+    """A row's configuration, lists and options."""
+    return Pair(SENDER_CONFIGS[row.config], sent_by(row.came), sent_by(row.left), row.words())
 
 
 def many_lines(count: int) -> Pair:
@@ -67,6 +97,12 @@ def weak_lists(program: Program) -> Iterator[tuple]:
             given = program, pair_of(rows[name]), place, by_path
             yield f"conform, {side} is weak: {name}", weak_list, *given
         by_path = not by_path
+    beside = {row.name: row for row in BESIDE_ROWS}
+    for name in TRIED_BESIDE:
+        for place, side in enumerate(LISTS):
+            by_path = not by_path
+            of = program, pair_beside(beside[name]), place, by_path, WeakBeside
+            yield f"conform --senders, {side} is weak: {name}", weak_list, *of
     many, large = WeakList(program, many_lines(60), 1, False), many_lines(9_000)
     yield "conform: more than 1,000 writes", many_writes, many
     yield "conform: more than a buffer", large_texts, WeakList(program, large, 1, True)

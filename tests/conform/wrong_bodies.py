@@ -201,8 +201,8 @@ def judging_by(terms: type[Terms], stream: type[Stream]) -> type[Judging]:
     class Changed(Judging):
         """Streams with other terms, or other steps."""
 
-        def terms(self, link: dict, byte_ns: int) -> Terms:
-            return terms(link, byte_ns, self.options, self.until)
+        def terms(self, link: dict, port: int) -> Terms:
+            return terms(link, self.switch.ports[port].byte_ns, self.options, self.until)
 
         def stream(self, terms: Terms, place: str, came: list[Came], left: list[Left]) -> Stream:
             return stream(terms, place, came, left)

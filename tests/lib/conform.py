@@ -39,10 +39,10 @@ def of_list(fault: bytes, name: str) -> bytes:
     return fault.replace(b"list ", b"list %s " % name.encode(), 1)
 
 
-def taken_of(came: bytes, left: bytes) -> Taken:
+def taken_of(came: bytes, left: bytes, places: Places = Places([], False)) -> Taken:
     """What is taken of two lists: a line of each is read, the lesser one is taken, at one time that
     of what came, and the next of its list is read."""
-    lists = [arrivals_of(text, Places([], False)) for text in (came, left)]
+    lists = [arrivals_of(text, places) for text in (came, left)]
     taken, latest, fault = [0, 0], 0, b""
     reads = [0, 1]  # the lists of which a line is read next
     while not fault:
@@ -81,15 +81,17 @@ def judged_tables(config: bytes, name: str | None) -> dict | Answer:
 
 
 class Judging:
-    """Two lists without a fault, or as far as one was taken, judged by the tables of a switch."""
+    """Two lists without a fault, or as far as one was taken, judged by the tables of a switch. A
+    port is its number there."""
 
     def __init__(self, tables: dict, options: Options, taken: Taken) -> None:
-        self.switch, self.options = Switch(tables), options
+        self.options = options
+        self.links = self.links_of(tables)
         until = taken.latest if options.until is None else options.until
         self.until, self.left_out = until, 0
         self.lines: list[tuple[Order, str]] = []
         self.findings = 0
-        self.place_of = {vl: place for place, vl in enumerate(self.switch.links)}
+        self.place_of = {link["vl"]: place for place, link in enumerate(self.links)}
         came, left = self.kept(taken.came, False), self.kept(taken.left, True)
         self.streams = self.streams_of(self.own(came), self.at_ports(left))
         for (side, port, place), stream in self.streams.items():
@@ -97,6 +99,23 @@ class Judging:
             for index, (moment, text) in enumerate(stream.found):
                 self.lines.append(((moment, side, port, 1, place, index), text))
         self.lines.sort()
+
+    def links_of(self, tables: dict) -> list[dict]:
+        """The links in their order, by these tables, which are kept."""
+        self.switch = Switch(tables)
+        return list(self.switch.links.values())
+
+    def port_at(self, each: Arrival) -> int:
+        """Where a frame was seen."""
+        return each.port
+
+    def place(self, side: int, port: int) -> str:
+        """A port as a line has it."""
+        return f"{SIDES[side]} {port}"
+
+    def shape(self, port: int, frame: Frame) -> str:
+        """Why a frame that comes there is dropped, whatever came before it."""
+        return self.switch.shape(port, frame)
 
     def kept(self, lines: list[Arrival], is_left: bool) -> list[Arrival]:
         """The lines that aren't passed over."""
@@ -131,38 +150,39 @@ class Judging:
     def own(self, came: list[Arrival]) -> dict[tuple[int, int], list[Came]]:
         """The arrivals of each link on each side."""
         found = defaultdict(list)
-        for time, side, _, port, frame in came:
-            place = self.place_of.get(frame.link())
+        for each in came:
+            frame, place = each.frame, self.place_of.get(each.frame.link())
             if place is not None:
-                shape = self.switch.shape(port, frame)
-                found[side, place].append(Came(time, frame.number, frame.content, shape))
+                shape = self.shape(self.port_at(each), frame)
+                arrival = Came(each.time, frame.number, frame.content, shape)
+                found[each.side, place].append(arrival)
         return found
 
     def ports_of(self, place: int) -> list[int]:
         """The output ports of a link."""
-        link = list(self.switch.links.values())[place]
-        return [self.switch.port_of[name] for name in link["to"]]
+        return [self.switch.port_of[name] for name in self.links[place]["to"]]
 
     def at_ports(self, left: list[Arrival]) -> dict[tuple[int, int, int], list[Left]]:
         """The frames of each stream; of those that are of none the lines."""
         found = defaultdict(list)
         ports = {place: set(self.ports_of(place)) for place in self.place_of.values()}
-        for time, side, _, port, frame in left:
+        for each in left:
+            time, side, frame, port = each.time, each.side, each.frame, self.port_at(each)
             place = self.place_of.get(frame.link())
             is_heard = place is not None and self.sees_sender(side, place)
             if place is None or port not in ports[place] or not is_heard:
                 self.foreign(time, side, port, frame)
                 continue
-            fault = self.switch.shape(port, frame)
+            fault = self.shape(port, frame)
             word = fault if fault in NO_FRAME else ""
             found[side, port, place].append(Left(time, frame.number, frame.content, word))
         return found
 
     def foreign(self, time: int, side: int, port: int, frame: Frame) -> None:
         """The line of a frame that is of no stream."""
-        fault = self.switch.shape(port, frame)
+        fault = self.shape(port, frame)
         word = fault if fault in NO_LINK else "not-its-port"
-        text = f"strange {frame.number} {SIDES[side]} {port} {word}"
+        text = f"strange {frame.number} {self.place(side, port)} {word}"
         self.lines.append(((time, side, port, 0, frame.number, 0), text))
         self.findings += 1
 
@@ -176,18 +196,17 @@ class Judging:
         for side, place in came:
             keys |= {(side, port, place) for port in self.ports_of(place)
                      if self.is_judged(side, port, place)}
-        links, streams = list(self.switch.links.values()), {}
+        streams = {}
         for side, port, place in sorted(keys):
-            byte_ns = self.switch.ports[port].byte_ns
-            terms = self.terms(links[place], byte_ns)
+            terms = self.terms(self.links[place], port)
             arrivals, frames = came.get((side, place), []), left.get((side, port, place), [])
-            stream = self.stream(terms, f"{SIDES[side]} {port}", arrivals, frames)
+            stream = self.stream(terms, self.place(side, port), arrivals, frames)
             streams[side, port, place] = stream
         return streams
 
-    def terms(self, link: dict, byte_ns: int) -> Terms:
+    def terms(self, link: dict, port: int) -> Terms:
         """What holds of a stream."""
-        return Terms(link, byte_ns, self.options, self.until)
+        return Terms(link, self.switch.ports[port].byte_ns, self.options, self.until)
 
     def stream(self, terms: Terms, place: str, came: list[Came], left: list[Left]) -> Stream:
         """A stream, judged."""

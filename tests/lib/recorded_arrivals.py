@@ -8,7 +8,7 @@ from collections.abc import Iterator
 from typing import NamedTuple
 
 from places import LEFT_OUT, said
-from reads import HELD, ORDERS
+from reads import HELD, LIVES, ORDERS
 from recorded import Frame, is_packed, is_recording, recorded
 
 MAGIC = 4  # bytes that say whether it is a recording
@@ -16,6 +16,7 @@ SEALED = 0x2144DF1C  # the check sequence of bytes that end with that of the oth
 SIDES = {0x20: "A", 0x40: "B"}
 SKIPS = ("no-frame", "left-out", "not-afdx", "unknown-sender", "no-network", "before-origin")
 BYTE_NS = 8_000  # of a byte at 1 Mbit/s
+MS = 10**6  # ns
 AT_ONCE = "--line-buffered"
 BROKEN = "device Read"  # where more bytes are asked for than there are to come
 
@@ -31,6 +32,7 @@ class Options(NamedTuple):
     side: str | None = None  # that of all frames, where two recordings are read at once
     reorder: int | None = None
     stamps: str | None = None  # `end` or `start` of a frame
+    live: int | None = None  # ms by which a frame may stand late, in the place of `reorder`
     at_once: bool = False  # each line is written at once
     unnamed: str = ""  # the place of an interface that `places` doesn't have
     lefts: frozenset[int] = frozenset()  # interfaces at which frames left the switch
@@ -55,6 +57,13 @@ class Options(NamedTuple):
             return 0 if self.at_once else HELD
         return self.reorder
 
+    def is_late(self, moment: int, moments: list[int], greatest: int) -> bool:
+        """A frame of this moment goes back too far, behind arrivals of these moments, which ascend,
+        and numbers of which this is the greatest stamp."""
+        if self.live is not None:
+            return moment < greatest - self.live * MS
+        return later_than(moment, moments) > self.held()
+
     def words(self) -> list[str]:
         """The program's words, without those of the port and the side. One that doesn't know the
         order's takes the arrivals as with 0 and `end`."""
@@ -65,6 +74,8 @@ class Options(NamedTuple):
             words.append(f"--origin={self.origin}")
         if ORDERS and self.reorder is not None:
             words.append(f"--reorder={self.reorder}")
+        if LIVES and self.live is not None:
+            words.append(f"--live={self.live}")
         if ORDERS and self.stamps is not None:
             words.append(f"--stamps={self.stamps}")
         return [*words, AT_ONCE] if self.at_once else words
@@ -111,8 +122,8 @@ class Skipped(NamedTuple):
 
 class Standing(NamedTuple):
     """What stands in a recording before its first fault, that fault, which is empty where there is
-    none, the frames that the recorder lost, how many
-    interfaces have a place that it hasn't, and the least of them."""
+    none, the frames that the recorder lost, how many interfaces have a place that it hasn't, and
+    the least of them; and the stamp of each number before the fault, None where it has none."""
 
     arrivals: list[Arrival]
     skipped: list[Skipped]
@@ -120,6 +131,7 @@ class Standing(NamedTuple):
     lost: int = 0
     unused: int = 0
     absent: int | None = None
+    stamps: tuple[int | None, ...] = ()
 
 
 class Look(NamedTuple):
@@ -187,6 +199,11 @@ def moment_of(options: Options, systems: Systems, frame: Frame, place: Place) ->
     return frame.stamp + length * BYTE_NS // rate
 
 
+def stamp_of(frame: Frame | None) -> int | None:
+    """The stamp of a number, if it has one that can be."""
+    return frame.stamp if frame is not None and frame.in_range else None
+
+
 def later_than(moment: int, moments: list[int]) -> int:
     """How many of these are later; they ascend."""
     return len(moments) - bisect_right(moments, moment)
@@ -198,9 +215,11 @@ def outcomes(
     frame: Frame | None,
     place: Place | None,
     moments: list[int],
+    greatest: int,
 ) -> Iterator[str]:
     """What becomes of a number, by the first word; an arrival has none. Words of SKIPS are skipped,
-    the others are faults. The moments are those of all arrivals before it, ascending."""
+    the others are faults. The moments are those of all arrivals before it, ascending; then comes
+    the greatest stamp of all numbers before it, or 0."""
     if frame is None or place is None:
         yield "no-frame"
         return
@@ -226,7 +245,7 @@ def outcomes(
         yield "before-origin"
     if is_closed(options, frame) is None and zlib.crc32(frame.bytes) == SEALED:
         yield "FcsUnclear"
-    if later_than(moment, moments) > options.held():
+    if options.is_late(moment, moments, greatest):
         yield "TimeBack"
 
 
@@ -245,23 +264,26 @@ def standing_in(
     said = recorded(data)
     missing = [each for each in options.places if each >= said.interfaces]
     ends = (said.lost, len(missing), min(missing, default=None))
+    stamps = tuple(map(stamp_of, said.numbers))
+    greatest = 0
     for number, frame in enumerate(said.numbers, 1):
         place = frame and place_of(options, systems, frame)
-        outcome = next(outcomes(options, systems, frame, place, moments), "")
+        outcome = next(outcomes(options, systems, frame, place, moments, greatest), "")
+        greatest = max(greatest, stamps[number - 1] or 0)
         if outcome in SKIPS:
             skipped.append(Skipped(number, outcome))
         elif outcome:
-            return Standing(arrivals, skipped, f"{outcome} {number}", *ends)
+            return Standing(arrivals, skipped, f"{outcome} {number}", *ends, stamps)
         else:
             assert frame is not None and place is not None
             moment = moment_of(options, systems, frame, place)
             insort(moments, moment)
             arrivals.append(Arrival(moment, number, frame, place))
     if is_open and said.fault in ("", "Ended"):
-        return Standing(arrivals, skipped, BROKEN, *ends)
+        return Standing(arrivals, skipped, BROKEN, *ends, stamps)
     count = len(said.numbers)
     fault = said.fault or ("NoArrival" if count and not arrivals else "")
-    return Standing(arrivals, skipped, fault and f"{fault} {count}", *ends)
+    return Standing(arrivals, skipped, fault and f"{fault} {count}", *ends, stamps)
 
 
 def looks(standing: Standing, held: int) -> Iterator[Look]:

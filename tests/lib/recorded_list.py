@@ -5,8 +5,9 @@ from __future__ import annotations
 from typing import NamedTuple, NoReturn
 
 from places import place_text
-from recorded_arrivals import BROKEN, SKIPS, Arrival, Options, Systems
+from recorded_arrivals import BROKEN, MS, SKIPS, Arrival, Options, Skipped, Systems
 from recorded_arrivals import is_closed, looks, standing_in
+from recorded_live import live_steps
 
 LATEST_TIME = 10**15  # ns of a run
 MOST_LISTED = 2_000  # bytes of a recorded frame in the list; every switch drops a longer one
@@ -58,7 +59,7 @@ class Source:
     ) -> None:
         standing = standing_in(options, systems, data, is_open)
         self.options, self.lost, self.unused = options, standing.lost, standing.unused
-        self.absent = standing.absent
+        self.absent, self.standing = standing.absent, standing
         self.looks = looks(standing, options.held())
 
     def end(self, fault: str) -> NoReturn:
@@ -81,12 +82,16 @@ class Run:
         self.lines.append(line)
         self.numbers.append(number)
 
+    def skip(self, skipped: Skipped) -> None:
+        """A number that is no arrival."""
+        self.counts[skipped.word] += 1
+        self.tell(skipped.number, f"# {skipped.word} {skipped.number}\n".encode())
+
     def seek(self, source: Source) -> Arrival | None:
         """The next arrival of a recording, None at its end; what stands before it is skipped."""
         look = next(source.looks)
-        for number, word in look.skipped:
-            self.counts[word] += 1
-            self.tell(number, f"# {word} {number}\n".encode())
+        for skipped in look.skipped:
+            self.skip(skipped)
         if look.fault:
             source.end(look.fault)
         return look.arrival
@@ -110,11 +115,26 @@ class Run:
             self.take(sources[first], head)
             heads[first] = self.seek(sources[first])
 
+    def take_live(self, sources: list[Source], delay: int) -> None:
+        """The same by the clocks of the recordings."""
+        for step in live_steps([source.standing for source in sources], delay):
+            source = sources[step.of]
+            if step.fault:
+                source.end(step.fault)
+            if step.skipped:
+                self.skip(step.skipped)
+            if step.arrival:
+                self.take(source, step.arrival)
+
     def told(self, sources: list[Source]) -> Told:
         """What is reported of these recordings."""
         fault = ""
+        live = sources[0].options.live
         try:
-            self.take_all(sources)
+            if live is None:
+                self.take_all(sources)
+            else:
+                self.take_live(sources, live * MS)
         except Ends as ends:
             fault = f"{ends}\n"
         lost = sum(source.lost for source in sources)

@@ -18,6 +18,7 @@ class PairOptions(NamedTuple):
     origin: int | None = None
     reorder: int | None = None
     stamps: str | None = None
+    live: int | None = None
     at_once: bool = False
 
     def of(self, side: str) -> Options:
@@ -33,6 +34,7 @@ class PairOptions(NamedTuple):
             origin=self.origin,
             reorder=self.reorder,
             stamps=self.stamps,
+            live=self.live,
             at_once=self.at_once,
         )
 

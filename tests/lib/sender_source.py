@@ -17,7 +17,10 @@ from one_switch import LONGEST, MS, SHORTEST, datagram
 NETWORKS = (b"\x20", b"\x40")  # the last byte of a source address, by side
 MOST_APART = 100 * MILLION  # ns: the greatest skew, and the greatest `--apart`
 BEFORE_FRAME = 8  # bytes of the line: preamble and delimiter
-FURTHER_ON = 127  # so many steps at most a number is behind another
+# So many steps at most a number is behind another. Copies may be sent 100 ms apart, and are near
+# within 100 ms. So a frame that was sent before one's copy may be near that one though it stands
+# 201 places back: 54 steps on, by its number. Slack and drift take some more.
+FURTHER_ON = 45
 
 
 class Way(NamedTuple):
@@ -69,7 +72,7 @@ def step(number: int) -> int:
 
 
 def further_on(number: int) -> set[int]:
-    """The sequence numbers that are 1 to 127 steps behind this one."""
+    """The sequence numbers that are 1 to 45 steps behind this one."""
     found = set()
     for _ in range(FURTHER_ON):
         number = step(number)

@@ -61,28 +61,36 @@ def switches_of(config: bytes, tables: dict) -> list[dict]:
     return of_one(tables, "one")["switch"]
 
 
+class Site(NamedTuple):
+    """The port of a system, and its number in addresses."""
+
+    port: int
+    ident: int
+
+
 class Senders:
-    """The systems of a switch, judged by what came to it from F to T and wasn't left out."""
+    """The systems of a switch, judged by what came to it from F to T and wasn't left out. A port is
+    its number there."""
 
     def __init__(
         self, switches: list[dict], tables: dict, options: Options, until: int,
         came: list[Arrival], seen: Seen = seen_all,
     ) -> None:  # fmt: skip
         self.seen = seen
-        self.systems = {system["name"]: system for system in tables["system"]}
-        self.ports = {system["port"] for system in tables["system"]}
-        self.links = {link["vl"]: link for link in tables["link"]}
+        self.systems = self.systems_in(tables)
+        self.ports = {site.port for site in self.systems.values()}
+        self.links = {link["vl"]: link for link in self.links_in(tables)}
         self.known = {link["vl"] for switch in switches for link in switch["link"]}
         self.lines: list[tuple[Order, str]] = []
         frames = self.by_source(came)
-        own = [link for link in tables["link"] if link["from"] in self.systems]
+        own = [link for link in self.links.values() if link["from"] in self.systems]
         sources, alone = [], 0
         for link in own:
-            port = self.systems[link["from"]]["port"]
+            port, ident = self.systems[link["from"]]
             is_paired = seen(0, port) and seen(1, port)
             alone += not is_paired
-            terms = SourceTerms(link, self.systems[link["from"]]["id"],
-                                ways_of(switches, link["vl"]), options, until, is_paired)
+            terms = SourceTerms(link, ident, ways_of(switches, link["vl"]), options, until,
+                                is_paired)
             source = Source(terms, frames[link["vl"]])
             sources.append(source)
             for told in source.told:
@@ -92,17 +100,34 @@ class Senders:
         self.counted = Counted(sum(each.sent for each in sources),
                                sum(each.cut for each in sources), alone)
 
+    def systems_in(self, tables: dict) -> dict[str, Site]:
+        """The systems that are judged."""
+        return {each["name"]: Site(each["port"], each["id"]) for each in tables["system"]}
+
+    def links_in(self, tables: dict) -> list[dict]:
+        """The links of which they may send some, in their order."""
+        return tables["link"]
+
+    def port_at(self, each: Arrival) -> int:
+        """Where a frame came."""
+        return each.port
+
+    def place(self, side: int, port: int) -> str:
+        """A port as a line has it."""
+        return f"{SIDES[side]} {port}"
+
     def put(
         self, moment: int, side: int, port: int, place: tuple[int, int], word: str, behind: str
     ) -> None:
         """A line is told; its place is the frame's line, and its index there."""
-        text = f"{word} {place[0]} {SIDES[side]} {port}" + (f" {behind}" if behind else "")
+        text = f"{word} {place[0]} {self.place(side, port)}" + (f" {behind}" if behind else "")
         self.lines.append(((moment, side, port, SENDERS_FIRST, *place), text))
 
     def by_source(self, came: list[Arrival]) -> dict[int, list[Heard]]:
         """The frames of each link at its source's sites; what is of no source is told."""
         found: dict[int, list[Heard]] = defaultdict(list)
-        for time, side, _, port, frame in came:
+        for each in came:
+            time, side, port, frame = each.time, each.side, self.port_at(each), each.frame
             vl = frame.link()
             if vl is None or port not in self.ports or not self.seen(side, port):
                 continue
@@ -116,7 +141,7 @@ class Senders:
     def is_sent_at(self, vl: int, port: int) -> bool:
         """The system at a port sends the link."""
         sender = self.systems.get(self.links[vl]["from"]) if vl in self.links else None
-        return sender is not None and sender["port"] == port
+        return sender is not None and sender.port == port
 
     def of_none(self, vl: int, frame: Frame) -> str:
         """Why a frame is unlawful that is of no source."""
@@ -136,13 +161,13 @@ def text_of(lines: list[tuple[Order, str]], before: int | None = None) -> bytes:
 
 def senders_by(
     config: bytes, tables: dict, options: Options, judged: Judging, taken: Taken,
-    seen: Seen = seen_all,
+    seen: Seen = seen_all, senders: type[Senders] = Senders,
 ) -> Senders:  # fmt: skip
     """The senders of a switch whose streams are judged, by what was taken."""
     within = [each for each in taken.came if judged.options.begin(False) <= each.time]
     kept = [each for each in within
             if each.time <= judged.until and each.frame.link() not in options.left_out]
-    return Senders(switches_of(config, tables), tables, options, judged.until, kept, seen)
+    return senders(switches_of(config, tables), tables, options, judged.until, kept, seen)
 
 
 def alone_answer(senders: Senders, judged: Judging) -> Answer:
@@ -172,6 +197,14 @@ def beside_answer(senders: Senders, judged: Judging) -> Answer:
     return Answer(status, text_of(lines) + f"{last}{senders.counted.text()}\n".encode(), b"")
 
 
+def senders_answer(senders: Senders, judged: Judging, taken: Taken, is_alone: bool) -> Answer:
+    """Of senders alone or beside streams, of what was taken."""
+    if taken.fault:
+        lines = senders.lines if is_alone else sorted([*senders.lines, *judged.lines])
+        return Answer(3, text_of(lines, taken.latest), taken.fault)
+    return alone_answer(senders, judged) if is_alone else beside_answer(senders, judged)
+
+
 def conform_senders(
     config: bytes, came: bytes, left: bytes | None = None, words: tuple[str, ...] = ()
 ) -> Answer:
@@ -186,7 +219,4 @@ def conform_senders(
     taken = taken_of(came, left or b"")
     judged = Judging(tables, options, taken)
     senders = senders_by(config, tables, options, judged, taken)
-    if taken.fault:
-        lines = senders.lines if left is None else sorted([*senders.lines, *judged.lines])
-        return Answer(3, text_of(lines, taken.latest), taken.fault)
-    return alone_answer(senders, judged) if left is None else beside_answer(senders, judged)
+    return senders_answer(senders, judged, taken, left is None)

@@ -36,6 +36,12 @@ conform_of() { # NAME STATUS CAME LEFT LINES ERR OPTION..
 }
 
 conform_of 'a frame leaves in time' 0 'F 0 A 1 H1' 'F 6720 A 3 H1' "$(judged conforms 1 0 0 0)" ''
+conform_of 'a switch and its systems' 0 'F 0 A 1 H1' 'F 6720 A 3 H1' \
+    "$(judged conforms 1 0 0 0) sent 1 cut 1 alone 0" '' --senders
+conform_of 'a switch and its systems, both amiss' 5 'F 0 A 1 H1 / F 0 A 1 H1' 'F 17001 A 3 H1' \
+    "number 2 A 1 1 / soon 2 A 1 500000 / late 1 A 3 1 / $(
+        judged 'deviates 3' 0 0 0 0
+    ) sent 1 cut 2 alone 0" '' --senders
 conform_of 'both links on both sides' 0 \
     'F 0 A 1 H1 / F 0 A 2 H2 / F 9 B 1 H1 / F 9 B 2 H2' \
     'F 6720 A 3 H1 / F 9000 B 3 H2 / F 13440 A 3 H2 / F 15720 B 3 H1' \
@@ -157,8 +163,7 @@ for word in --senders --apart 'afdx conform --senders' unlawful number soon diff
     'sent S' 'cut C' 'alone G'; do
     text_case "help of conform tells of $word" 0 out "$word" conform --help
 done
-text_case 'conform --senders with LEFT' 2 err '[LEFT]' conform --senders "$rules" "${lists[@]}"
-text_case 'conform --senders --left' 2 err --left \
+case_of 'conform --senders --left, and nothing that came' 2 '' $'words BadInterface\n' \
     conform --senders --left 0=A:3 "$rules" "$work/came"
 case_of 'conform --senders --switch' 3 \
     $'undecided explained 0 open 0 uncertain 0 left-out 0 unseen 6 idle 0 sent 0 cut 0 alone 0\n' \

@@ -8,11 +8,12 @@ from collections.abc import Iterator
 from contextlib import contextmanager
 from typing import NamedTuple
 
+from edge_rows import low
 from pair_wanted import PairCase
 from program import PATIENCE, Program, must, rests, same_text, text_within
-from reads import ORDERS
+from reads import LIVES, ORDERS
 from recorded_pair import NETWORKS, PairOptions
-from recording_rows import H1, H2, IL, PL, SL, US, ZERO, E, R
+from recording_rows import H1, H2, IL, ONE, PL, SL, US, ZERO, E, R
 
 SILENCE = 0.1  # seconds in which nothing may come
 WAITS = 4  # the status of the reference where more has to come
@@ -92,11 +93,11 @@ def silent(live: Live) -> None:
 
 
 def live_pair(
-    program: Program, words: list[str], reorder: int | None, steps: list[Step], by_stdin: str
+    program: Program, words: list[str], options: PairOptions, steps: list[Step], by_stdin: str
 ) -> None:
     """After each step everything is reported that is known then, and before its last byte nothing
     of that; where both end, the run does."""
-    case, told, opens = held_case(reorder), b"", NETWORKS
+    case, told, opens = held_case(options), b"", NETWORKS
     with started(program, [*words, *case.options.words()], by_stdin) as live:
         for step in steps:
             place = NETWORKS.index(step.side)
@@ -120,9 +121,9 @@ def live_pair(
             must(ended == (said.status(), said.fault), f"it ends with {ended!r}")
 
 
-def held_case(reorder: int | None) -> PairCase:
+def held_case(options: PairOptions) -> PairCase:
     """Two recordings of which no byte has come yet."""
-    return PairCase((b"", b""), PairOptions(reorder=reorder, at_once=True))
+    return PairCase((b"", b""), options._replace(at_once=True))
 
 
 def held_in_order() -> dict[str, tuple[str, list[int]]]:
@@ -142,6 +143,33 @@ def held_in_order() -> dict[str, tuple[str, list[int]]]:
         "one is held, a fault of A": (
             f"{heads} / A{second} / B{first} / B{third} / A{fourth} / A{first} / B",
             [0, 0, 0, 0, 0, 1, 1, 4],
+        ),
+    }
+
+
+def held_by_clock() -> dict[str, tuple[str, list[int]]]:
+    """The same where frames may stand 1 ms late: a network is silent, and its recorder isn't."""
+    heads = f"A{PL} / B{PL}"
+    first, second = R(ZERO, H1), R("d0070000", H2)  # 2 ms
+    heard = {ms: R(low(1000 * ms), FOREIGN) for ms in (1, 2, 3, 4, 5)}
+    return {
+        "A hears": (
+            f"{heads} / A{heard[1]} / B{first} / B{heard[2]} / A{heard[3]} / B{second}"
+            f" / A{heard[5]} / B{heard[4]} / B",
+            [0, 0, 0, 0, 0, 1, 1, 1, 2, 2],
+        ),
+        "B hears": (
+            f"{heads} / A{first} / B{heard[1]} / A{heard[2]} / A{second} / B{heard[3]}"
+            f" / A{heard[4]} / A",
+            [0, 0, 0, 0, 1, 1, 1, 2, 2],
+        ),
+        "A is silent": (
+            f"{heads} / B{first} / B{heard[2]} / B{second} / B{heard[4]} / A{heard[5]}",
+            [0, 0, 0, 0, 0, 0, 2],
+        ),
+        "in its own order": (
+            f"{heads} / A{R(ONE, H2)} / B{heard[2]} / A{first} / A{heard[2]}",
+            [0, 0, 0, 0, 0, 2],
         ),
     }
 
@@ -181,9 +209,9 @@ def held_back() -> dict[str, tuple[str, list[int]]]:
     }
 
 
-def counts_hold(reorder: int | None, steps: list[Step], counts: list[int]) -> None:
+def counts_hold(options: PairOptions, steps: list[Step], counts: list[int]) -> None:
     """The reference reports so many arrivals after each step."""
-    case, opens, found = held_case(reorder), NETWORKS, []
+    case, opens, found = held_case(options), NETWORKS, []
     for step in steps:
         place = NETWORKS.index(step.side)
         if step.data is None:
@@ -197,14 +225,16 @@ def counts_hold(reorder: int | None, steps: list[Step], counts: list[int]) -> No
 def live_pairs(program: Program) -> Iterator[tuple]:
     """All, by `replay` and by `list`, from two pipes and from one and standard input."""
     turns = ["", "A", "B"]
-    tries: list[tuple[str, int | None, str, list[int]]] = []
-    tries += [(name, None, *each) for name, each in held_back().items()]
+    tries: list[tuple[str, PairOptions, str, list[int]]] = []
+    tries += [(name, PairOptions(), *each) for name, each in held_back().items()]
     if ORDERS:
-        tries += [(name, 1, *each) for name, each in held_in_order().items()]
-    for name, reorder, text, counts in tries:
+        tries += [(name, PairOptions(reorder=1), *each) for name, each in held_in_order().items()]
+    if LIVES:
+        tries += [(name, PairOptions(live=1), *each) for name, each in held_by_clock().items()]
+    for name, options, text, counts in tries:
         steps = steps_of(text)
-        yield f"two, as they come: {name}, counted", counts_hold, reorder, steps, counts
+        yield f"two, as they come: {name}, counted", counts_hold, options, steps, counts
         for command in ("replay", "list"):
             turns.append(turns.pop(0))
-            given = program, [command, "base.toml"], reorder, steps, turns[0]
+            given = program, [command, "base.toml"], options, steps, turns[0]
             yield f"two, as they come: {name}, {command}", live_pair, *given

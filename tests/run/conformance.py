@@ -13,8 +13,12 @@ does what the program replays, and where it has `conform` it must answer as is c
 for byte, from files and standard input, with each option that changes nothing. Where its help has
 `--left`, recordings are judged too: those that are spelled out in tests/conform/recorded_rows.py,
 small cases as recorders would write them, and such that are cut, changed or of other options.
+Several switches of which none is named are judged from edge to edge, as tests/lib/conform_edges.py
+computes: rows of tests/conform/cascade_edge_rows.py, wrong bodies that these refuse, and replays of
+admitted switches; by PROGRAM too, where it offers that.
 Where it has `--senders`, the systems that sent what came are judged too: rows that are spelled out
-in tests/conform/sender_rows.py, right ones, ones with something amiss, and cases at random.
+in tests/conform/sender_rows.py, right ones, ones with something amiss, and cases at random; and
+beside a switch in one run those of tests/conform/beside_rows.py, and cases at random.
 N small cases (100 where it isn't given) are tried for each of the seeds S to S + 3 (0 to 3): N of
 25000 tries 100,000 on the program. The long run is of F frames of each side (20,000); R frames are
 recorded to see what memory they take (200,000).
@@ -31,11 +35,13 @@ sys.dont_write_bytecode = True
 TESTS = os.path.join(os.path.dirname(os.path.abspath(__file__)), "..")
 PARTS = ("lib", "conform", "cascades", "fuzzing", "recordings")
 sys.path[:0] = [os.path.join(TESTS, name) for name in PARTS]
+from beside_claims import beside_random_cases  # noqa: E402
 from conform_claims import JUDGED, Judge  # noqa: E402
 from conform_claims import are_explained, bodies_are_refused, judged_alike  # noqa: E402
 from conform_claims import anywhere_conform, left_out_conform, long_run_conforms  # noqa: E402
 from conform_claims import right_conform, row_holds, rows_are_explained  # noqa: E402
 from conform_claims import steady_memory, told_early, wrong_are_found  # noqa: E402
+from cascade_edge_claims import computed_edge_cases, edge_cases, offers_edges  # noqa: E402
 from long_recorded import long_memory  # noqa: E402
 from program import Program, try_both  # noqa: E402
 from recorded_claims import HOW_MANY, apart_conforms, half_conforms, half_is_found  # noqa: E402
@@ -108,6 +114,7 @@ def computed_cases(given: argparse.Namespace) -> list[tuple]:
         *cases_of(JUDGED, "computed", given),
         *recorded_cases(JUDGED, "computed", given),
         *sender_cases(JUDGED, "computed", seeds, given.count),
+        *computed_edge_cases(JUDGED, given.seed),
         *((f"refused: {name}", bodies_are_refused, body) for name, body in wrong_bodies()),
         *((f"refused: {name}", readings_are_refused, reads) for name, reads in wrong_readings()),
         *((f"explained exactly where nothing is found, {seed}", are_explained, seed, given.count)
@@ -145,9 +152,12 @@ def program_cases(program: Program, given: argparse.Namespace) -> list[tuple]:
         for seed in range(given.seed, given.seed + SEEDS):
             cases.append((f"recordings made at random, {seed}", recorded_alike, judge, seed,
                           given.count))
+    if program.knows("conform") and offers_edges(judge):
+        cases += edge_cases(judge, who, replay_of(program), given.seed)
     if program.knows("conform", "--senders"):
         seeds = range(given.seed, given.seed + SEEDS)
         cases += sender_cases(judge, who, seeds, given.count)
+        cases += beside_random_cases(judge, who, seeds, given.count)
     cases.append((f"{who}: replays by the program conform", examples_conform, judge, program))
     cases.append((f"{who}: replays by the program, several switches", cascades_conform, judge,
                   replay_of(program), 8, 6))

@@ -9,14 +9,14 @@ error that is gone at the next call, by an interruption, or by moving no byte. `
 with admission and without, and `send` are run on lists of a few lines, read by path or as standard
 input, and `check` and `solve` on configurations; `police` and `replay` also on recordings, and on
 two at once, of which one is weak, if the program reads them (tests/lib/reads.py); `conform` on two
-lists, of which one is weak, and on recordings once its help has `--left`. `replay` and `send` are
-also run over several switches a side. Each run must write a beginning of the undisturbed text,
-exactly as far as it has to, and end with the status and the one line of the device that failed; and
-a device that failed, or has ended, must not be asked again, nor the other one be asked for more
-than what is held. With --line-buffered the text of each line, or recorded frame, must be handed
-over before more is read; frames that are held to be put in order are reported at the end and at a
-fault, and not after a failed read. The first bytes are also read one by one, and each of these
-reads is broken too.
+lists, of which one is weak, with `--senders` too, and on recordings once its help has `--left`.
+`replay` and `send` are also run over several switches a side. Each run must write a beginning of
+the undisturbed text, exactly as far as it has to, and end with the status and the one line of the
+device that failed; and a device that failed, or has ended, must not be asked again, nor the other
+one be asked for more than what is held. With --line-buffered the text of each line, or recorded
+frame, must be handed over before more is read; frames that are held to be put in order are reported
+at the end and at a fault, and not after a failed read. The first bytes are also read one by one,
+and each of these reads is broken too.
 Prints `ok NAME` or `FAILED NAME` for each case, then `N passed, M failed`; ends with status 1 if a
 case failed.
 """
@@ -31,7 +31,7 @@ from collections.abc import Iterator
 
 sys.dont_write_bytecode = True
 TESTS = os.path.join(os.path.dirname(os.path.abspath(__file__)), "..")
-sys.path[:0] = [os.path.join(TESTS, name) for name in ("lib", "recordings", "conform")]
+sys.path[:0] = [os.path.join(TESTS, name) for name in ("lib", "recordings", "conform", "cascades")]
 import tables as made  # noqa: E402
 from frames import HELLO, frame_of  # noqa: E402
 from program import Cases, Program, answers, main_of, must  # noqa: E402

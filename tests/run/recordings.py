@@ -39,6 +39,8 @@ import pair_reading  # noqa: E402
 import reading  # noqa: E402
 from edge_rows import edges  # noqa: E402
 from foreign_recordings import try_foreign  # noqa: E402
+from live_reading import reference_cases, try_live  # noqa: E402
+from live_rows import live_pairs, live_rows  # noqa: E402
 from long_recordings import try_long  # noqa: E402
 from made_recordings import made_data  # noqa: E402
 from order_reading import order_cases  # noqa: E402
@@ -135,11 +137,14 @@ def try_tshark(cases: Cases, program: Program) -> None:
 
 def try_reference(cases: Cases, program: Program) -> None:
     """What the reference says."""
-    cases.try_at_once([(f"row: {row.name}", row_holds, program, row) for row in every_row()])
+    every = [*every_row(), *live_rows()]
+    cases.try_at_once([(f"row: {row.name}", row_holds, program, row) for row in every])
     cases.try_at_once([(f"cut: {name}", cut_anywhere, case) for name, case in cut_cases().items()])
     kinds = ["made", "mutated"]
     cases.try_at_once([(f"lists: {kind}", many_lists, program, kind) for kind in kinds])
-    cases.try_at_once([(f"two: {row.name}", row_holds, program, row) for row in every_pair_row()])
+    pairs = [*every_pair_row(), *live_pairs()]
+    cases.try_at_once([(f"two: {row.name}", row_holds, program, row) for row in pairs])
+    cases.try_at_once([*reference_cases()])
     cases.try_at_once([(f"lists of two: {kind}", many_pair_lists, program, kind) for kind in kinds])
     try_tshark(cases, program)
 
@@ -179,6 +184,7 @@ def main() -> None:
             reading.try_reading(cases, program, every_row())
             try_orders(cases, program)
             try_pairs(cases, program)
+            try_live(cases, program)
             try_long(cases, program)
     sys.exit(cases.told())
 

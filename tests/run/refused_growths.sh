@@ -9,11 +9,11 @@
 # frame and its copy in base.toml, replays examples/gigabit.list, and sends five messages, of which
 # one is refused; it solves, replays and sends over examples/two_switches.toml. It polices and
 # replays recordings, and replays and lists two at once, over the two switches too, if it reads them
-# (tests/lib/reads.py). It judges two lists by `conform`, and recordings, if it takes them. Each of
-# these is run with the first request refused, then the second, and so on, until a run meets no
-# refusal; and again with all requests refused from the first on, from the second on, and so on.
-# Each run must write a beginning of what the undisturbed run writes, and end either with the line
-# `memory` and status 4, or as the undisturbed run does.
+# (tests/lib/reads.py). It judges two lists by `conform`, the systems too and alone, and recordings,
+# if it takes them. Each of these is run with the first request refused, then the second, and so on,
+# until a run meets no refusal; and again with all requests refused from the first on, from the
+# second on, and so on. Each run must write a beginning of what the undisturbed run writes, and end
+# either with the line `memory` and status 4, or as the undisturbed run does.
 #
 # Of each RUNNER the tests whose names, with their modules', contain `refused` are run, with one
 # request refused at a time, and with all refused from one on. Such a test makes a call again where
@@ -169,11 +169,16 @@ refuse_conform() { # PROGRAM
     input=$work/came
     refuse_program 'conform' "$1" conform "$base" - "$work/left"
     refuse_program 'conform, a bad line' "$1" conform "$base" - "$work/bad"
+    refuse_program 'conform, systems alone' "$1" conform --senders "$base" -
+    refuse_program 'conform, a switch and its systems' "$1" conform --senders "$base" - \
+        "$work/left"
     input=$work/left
     refuse_program 'conform with leeway' "$1" conform --slack 1000 --between 20000 --drift 100 \
         --inner 60000 --asked 10000 --from 5 --until 9000000 --leave-out 9 --leave-out other \
         --leave-out 7 --line-buffered "$base" "$work/came" -
     refuse_program 'conform of a switch of two' "$1" conform --switch fwd "$two" "$work/came" -
+    refuse_program 'conform of a switch of two and its systems' "$1" conform --senders \
+        --switch fwd "$two" "$work/came" -
     refuse_program 'conform, no such switch' "$1" conform --switch none "$two" "$work/came" -
     refuse_conform_recorded "$1" "$base" "$two"
 }

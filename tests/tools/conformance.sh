@@ -274,9 +274,10 @@ senders_tests() {
     tell 'a switch and its senders' "$(
         is_status 0
         says out 'verdict     conforms'
+        says out 'switch      conforms'
         says out 'senders     conforms'
-        says out 'together    No sender left the law. The switch conforms. These are two answers'
-        says out 'Nothing stands in the way of reading them together'
+        says out 'together    No sender left the law. The switch conforms. The tables are admitted,'
+        says out 'each receiver that keeps the rules, from a reset on, got each message'
         wants_number "$json" "${sums}['sent'], ${sums}['alone']" '(2, 0)'
         wants_number "$json" '[s["sent"] for s in r["senders"]]' '[2, 0]'
         wants_number "$json" '{p["holds"] for p in r["premises"]}' "{'yes'}"
@@ -295,6 +296,8 @@ senders_tests() {
         says out 'finding     apart: line 4 at 988781 ns, link 1, port 1 (s1) of B, by 21 ns'
         says out 'together    Senders left the law: '
         wants_number "$json" "sum(s['sent'] for s in r['senders']) - ${sums}['sent']" 0
+        wants_number "$json" 'len(r["deviations"] + r["sender_deviations"]) - int(
+            r["verdict"].split()[1])' 0
         wants_number "$json" '[(s["link"], s["system"]) for s in r["senders"] if s["amiss"]]' \
             "[(1, 's1'), (1, 's2')]"
         wants_number "$json" '[s["reasons"] for s in r["senders"] if s["reasons"]]' \
@@ -339,14 +342,35 @@ senders_tests() {
     judge --senders
     tell 'senders beside a list with a fault' "$(
         is_status 3
-        says out 'senders     conforms'
-        says out 'There is no verdict on the switch: list left BadLine 3.'
-        wants_number "$json" 'r["senders"]' '[]'
+        wants_text "$(cat "$work/err")" 'afdx-report: list left BadLine 3' 'the fault'
+        says out 'senders     none: list left BadLine 3'
+        says out 'together    There is no verdict: list left BadLine 3.'
+        wants_number "$json" 'r["senders"], r["of_senders"]["switch"]' "([], '')"
     )"
     judge --apart 1
     tell 'a distance of copies without senders' "$(is_status 2; says err 'with --senders only')"
     launch tools/afdx-report --senders examples/base.toml examples/one_link.list
     tell 'senders of a replay' "$(is_status 2; says err '--senders is an option with --conform')"
+}
+
+# Both copies of a frame have the number of the one before, and the switch stops them; then one
+# leaves that never came.
+both_amiss_tests() {
+    local json=$judged/out/report.json
+    sent_and_left '0 1000000' 0
+    sed -i '3,4d' "$judged/left.list"
+    echo "F 3000000 A 3 $one" >>"$judged/left.list"
+    judge --senders --junit "$judged/junit.xml" --cover "$judged/cover.toml"
+    tell 'a switch and its senders, both amiss' "$(
+        is_status 5
+        says out 'verdict     deviates 5'
+        says out 'switch      deviates 3'
+        says out 'senders     deviates 2'
+        says out 'together    Senders left the law: 2 findings. The switch deviates: 3 findings.'
+        wants_number "$json" 'r["status"], r["of_senders"]["status"], r["of_senders"]["switch"]' \
+            "(5, 5, 'deviates 3')"
+        wants_cases "$judged/junit.xml" '3 0 2'
+    )"
 }
 
 # What s1 sends at the switch fwd, to which s2's frames come by a cable.
@@ -357,7 +381,7 @@ senders_at_tests() {
         "$judged/came.list" "$judged/left.list" --out "$judged/out"
     tell 'senders at one of several switches' "$(
         is_status 0
-        says out 'No more follows from them, since this isn'
+        says out "doesn't follow, since this isn't so: there is one switch a side (--switch fwd)."
         wants_number "$json" '[(s["switch"], s["system"], s["sent"]) for s in r["senders"]]' \
             "[('fwd', 's1', 2)]"
         wants_number "$json" '[p["found"] for p in r["premises"] if p["holds"] == "no"]' \
@@ -380,7 +404,7 @@ recorded_senders_tests() {
     tell 'recorded senders, with times that count from what left first' "$(
         is_status 0
         says out 'senders     conforms'
-        says out 'No more follows from them, since this isn'
+        says out "each message came once and in order doesn't follow, since this isn't so: "
         wants_number "$json" 'r["totals"]["explained"], r["of_senders"]["totals"]["sent"]' '(1, 2)'
         wants_number "$json" '[p["found"] for p in r["premises"] if p["holds"] == "no"]' \
             "['unseen 3', 'alone 1', '--from 500000']"
@@ -427,6 +451,7 @@ elif "$program" conform --help >"$judged/help" 2>&1; then
     telling_tests
     if grep -qF -- --senders "$judged/help"; then
         senders_tests
+        both_amiss_tests
         sent_and_left 0 300
         launch "$program" conform --senders --switch fwd examples/two_switches.toml \
             "$judged/came.list"

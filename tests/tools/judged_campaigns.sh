@@ -152,6 +152,62 @@ list_tests() {
     tell 'a campaign of replays is not gone on with as one of judgements' "$(is_status 2)"
 }
 
+# A recording of 5 s of a switch of whose frames over half leave too late.
+slices_tests() {
+    local config=examples/base.toml late=$day/late.pcapng places
+    places=(--interface '0=A:1' --interface '1=A:2' --left '2=A:3')
+    printf '%s\n' interface,side,port,direction '#0,A,1,in' '#1,A,2,in' '#2,A,3,out' \
+        >"$day/three.csv"
+    "$python" -B tests/tools/stamped_recording.py "$late" frames=2500 inside=10500
+    launch "$program" conform "${places[@]}" "$config" "$late"
+    grep -c '^late ' "$work/out" >"$work/count"
+    sed '$d' "$work/out" | sort >"$work/wanted"
+    judge_day slices "${places[@]}" --slices 2 "$config" "$late" --junit "$day/slices.xml"
+    tell 'a recording in slices of time: together they find what one run finds' "$(
+        is_status 5
+        if [[ $(<"$work/count") -lt 100 ]]; then cat "$work/count"; fi
+        sed -s '$d' "$day"/slices/runs/*/stdout | sort -u | same "$work/wanted" -
+        says err "a slice doesn't know the accounts at its start"
+        wants_text "$(column_of "$day/slices/campaign.csv" 1)" '1 of 2 2 of 2' slices
+        wants_cases "$day/slices.xml" '4 0 2'
+        grep -q "name=\"$late, slice 2 of 2\"" "$day/slices.xml" || head -n 5 "$day/slices.xml"
+    )"
+    tell 'a slice goes on for a second where the next one has begun' "$(
+        "$python" -c 'import csv, sys
+one, two = csv.DictReader(open(sys.argv[1], newline=""))
+seam = int(two["from_ns"])
+is_so = int(one["until_ns"]) == seam + 10**9 and 2_490_000_000 < seam < 2_500_000_000
+print(end="" if is_so and not one["from_ns"] and not two["until_ns"] else f"{one} {two}")' \
+            "$day/slices/campaign.csv"
+    )"
+    cp "$day"/slices/runs/2/stdout "$work/wanted"
+    judge_day tapped --taps "$day/three.csv" --slices 2 "$config" "$late"
+    tell 'slices by a table of taps, which is checked once' "$(
+        is_status 5
+        same "$work/wanted" "$day/tapped/runs/2/stdout"
+    )"
+    judge_day tapped --taps "$day/three.csv" --slices 2 --from 1 "$config" "$late" --resume
+    tell 'resume wants the slices of before' "$(is_status 2; says err '--resume wants the lists')"
+    judge_day given "${places[@]}" --slices 2 --from 100000000 --until 4500000000 "$config" "$late"
+    tell 'slices of what comes between two times' "$(
+        is_status 5
+        wants_text "$(column_of "$day/given/campaign.csv" 2)" '100000000 2300000000' begins
+        wants_text "$(column_of "$day/given/campaign.csv" 3)" '3300000000 4500000000' ends
+    )"
+    head -c -2 "$late" >"$day/broken.pcapng"
+    tell 'recordings that are not cut into slices' "$(
+        refused "a replay isn't split" --slices 2 "$config" "$late"
+        refused '--slices takes one recording' --conform --slices 2 "$config" "$day/came.list"
+        refused '--slices takes one recording' --conform --slices 2 "$config" "$late,$late"
+        refused "3 slices of it aren't two seconds each" --conform "${places[@]}" --slices 3 \
+            "$config" "$late"
+        refused "doesn't say how long it is" --conform "${places[@]}" --slices 2 "$config" \
+            "$day/broken.pcapng"
+        refused "doesn't say how long it is" --conform --slices 2 "$config" "$late"
+        refused 'no whole number of 1 to 1000' --conform --slices 0 "$config" "$late"
+    )"
+}
+
 refused() { # WORDS WORD.. : with status 2, and words that say why
     local why=$1
     launch tools/afdx-campaign --out "$day/refused" "${@:2}"
@@ -186,5 +242,6 @@ else
     whole_aircraft_tests
     deviating_tests
     list_tests
+    slices_tests
     refused_campaigns_tests
 fi

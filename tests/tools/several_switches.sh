@@ -169,10 +169,15 @@ several_taps_tests() {
         is_status 0
         text_is out $'--interface=1=A:2\n--left=2=A:3\n--interface=3=A:20\n'
     )"
-    words_by_taps --conform --senders --switch aft
+    words_by_taps --senders --switch aft
     tell 'words of senders at one of several switches' "$(
         is_status 0
         text_is out $'--senders\n--interface=1=A:2\n--interface=3=A:20\n'
+    )"
+    words_by_taps --conform --senders --switch aft
+    tell 'words of one of several switches and its senders' "$(
+        is_status 0
+        text_is out $'--senders\n--interface=1=A:2\n--left=2=A:3\n--interface=3=A:20\n'
     )"
     words_by_taps --conform
     tell 'words of conform are of one switch' "$(

@@ -57,25 +57,41 @@ sound_taps_tests() {
         is_status 0
         text_is out $'--interface=0=A:1\n--interface=2=A:2\n--left=3=A:3\n--interface=4=A:3\n'
     )"
-    taps --conform --senders A.pcapng
-    tell 'words of conform of senders: what came' "$(
+    taps --senders A.pcapng
+    tell 'words of senders alone: what came' "$(
         is_status 0
         text_is out $'--senders\n--interface=0=A:1\n--interface=2=A:2\n--interface=4=A:3\n'
     )"
+    taps --conform --senders A.pcapng
+    tell 'words of a switch and its senders: what came, what left' "$(
+        is_status 0
+        text_is out $'--senders\n--interface=0=A:1\n--interface=2=A:2\n--left=3=A:3\n'"\
+--interface=4=A:3"$'\n'
+    )"
     taps --conform A.pcapng A.pcapng
     tell 'words of conform are of one recording' "$(is_status 2; says err 'one recording')"
-    taps --senders A.pcapng
-    tell 'words of senders are of conform' "$(
+    taps --senders A.pcapng A.pcapng
+    tell 'words of senders are of one recording' "$(
         is_status 2
         text_is out $'--interface=refused\n'
-        says err '--senders is a word of afdx conform'
+        says err '--senders takes one recording'
+    )"
+    set_taps eth1,A,1,in mgmt,,,none
+    tap in.pcapng eth1=17A mgmt=17A
+    taps --conform --senders in.pcapng
+    tell 'words of a switch and its senders where nothing left' "$(
+        is_status 0
+        text_is out $'--senders\n--interface=0=A:1\n'
+        says err 'no interface goes out: these words judge the systems alone'
     )"
     set_taps eth1,A,1,out mgmt,,,none
     tap out.pcapng eth1=33A mgmt=17A
-    taps --conform --senders out.pcapng
-    tell 'words of senders where nothing came' "$(
-        disagrees 'no interface goes in: nothing that systems sent was recorded'
-    )"
+    for word in --conform ''; do
+        taps $word --senders out.pcapng
+        tell "words of senders where nothing came${word:+, beside the switch}" "$(
+            disagrees 'no interface goes in: nothing that systems sent was recorded'
+        )"
+    done
     taps --conform out.pcapng
     tell 'words of conform where nothing came' "$(
         is_status 0

@@ -101,8 +101,8 @@ class Others(unittest.TestCase):
 
     def test_numbers(self) -> None:
         self.assertEqual([step(n) for n in (0, 1, 254, 255)], [1, 2, 255, 1])
-        self.assertEqual(further_on(0), set(range(1, 128)))
-        self.assertEqual(further_on(254), {255, *range(1, 127)})
+        self.assertEqual(further_on(0), set(range(1, 46)))
+        self.assertEqual(further_on(254), {255, *range(1, 45)})
 
 
 class Made(unittest.TestCase):

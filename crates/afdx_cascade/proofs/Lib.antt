@@ -11,6 +11,7 @@ pub mod DueLemmas
 pub mod RingLemmas
 pub mod NumberLemmas
 pub mod LeastLemmas
+pub mod FirstTurnLemmas
 pub mod ScanLemmas
 pub mod KeyLemmas
 pub mod GroupLemmas

@@ -23,7 +23,7 @@ use Rattle.afdx_cascade.specs.declared.told.Happened.{Happened}
 use Rattle.afdx_cascade.specs.declared.cable.InTransit.{InTransit}
 use Rattle.afdx_cascade.specs.declared.scan.FirstTurn.{FirstTurn}
 use Rattle.afdx_cascade.proofs.ComesLemmas.{scan-comes, told-from, quiet-then}
-use Rattle.afdx_cascade.proofs.FrontLemmas.{quiet-at, front-can, front-first, front-keeps}
+use Rattle.afdx_cascade.proofs.FrontLemmas.{front-can, front-first, front-keeps}
 use Rattle.afdx_cascade.proofs.LaterLemmas.{given-is}
 use Rattle.afdx_cascade.proofs.RingLemmas.{turn-next}
 use Rattle.afdx_cascade.proofs.ScanLemmas.{scan-least}
@@ -52,14 +52,6 @@ module _ (c : Plan) (networks : List Network) (time : ℕ) (ring : List OnCable)
       let later = keeps.later f.switch.0 f.side comes.gone.port comes.gone.turn comes.next.port_first
       comes.next.port_last comes.next.next in
       omega (arith, given, later)
-
-  pub not-quiet : ((n : Network) → slice_get networks f.switch.0 ≡ Some n → network.IsQuiet n at) → ⊥
-  not-quiet quiet =
-      let comes = scan-comes c so_far networks f keeps.stands.all is small in
-      let given = given-is at comes.gone.turn.end f.order comes.gone.turn.too_old comes.order_is low high in
-      let after = quiet-at c networks so_far at f.switch.0 keeps.stands.all quiet f.side comes.gone.port comes.gone.turn
-      comes.next.port_first comes.next.port_last comes.next.next in
-      omega (arith, given, after)
 
   -- and comes next, where no cable has a frame of an earlier time
   pub turn-lacks : (until : ℕ) → at ≤ until → IsEarly f.order time ring → LacksForTurn c until so_far f.switch.0

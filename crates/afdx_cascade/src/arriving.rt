@@ -1,7 +1,7 @@
 //! A frame arrives at one of several switches, or a turn of one of them is over. Of networks, the
 //! one of a switch stands at its place.
 
-ghost use Rattle.std.specs.Prelude.{◌≡◌, ℕ, ◌<◌, ◌≤◌, ◌∷◌, List, OnOk, IfOk, OnErr, IfSome, IfNone, None, Some, length, slice_get};
+ghost use Rattle.std.specs.Prelude.{◌≡◌, ℕ, ◌<◌, ◌≤◌, ◌∷◌, List, OnOk, IfOk, OnErr, None, Some, length, slice_get};
 ghost use Rattle.afdx_frame.specs.Parts.{bytes_of};
 ghost use Rattle.afdx_port.specs.Times.{latest_put};
 ghost use Rattle.afdx_police.specs.Arrival.{arrival_with};
@@ -22,6 +22,7 @@ ghost use Rattle.afdx_switch.specs.Early.{IsEarlyBy};
 ghost use Rattle.afdx_switch.specs.Verdicts.{shape_fault};
 ghost use Rattle.afdx_cascade.specs.Turning.{GivesAt, WasEarlyBy};
 
+use crate::scan::FirstTurn;
 use crate::told::SitedPort;
 use afdx_config::SwitchId;
 use afdx_frame::Checked;
@@ -85,23 +86,23 @@ pub(crate) fn early_at(networks: &[Network], to: SitedPort, time: u64, frame: Ch
     networks[place].early(to.side, time, to.port, frame)
 }
 
-/// The next turn of a switch that is given by `until`.
-pub(crate) fn take_at(networks: &mut [Network], switch: SwitchId, until: u64) -> Option<Departure>
-    requires within { switch.0 < length networks.old }
+/// The first turn of all switches, which is given by `until`.
+pub(crate) fn take_at(networks: &mut [Network], first: FirstTurn, until: u64) -> Departure
+    requires within { first.switch.0 < length networks.old }
     requires clock { (k : ℕ) (n : At) → slice_get networks.old k ≡ Some n →
         network.IsUntil n until }
+    requires first { (n : At) → slice_get networks.old first.switch.0 ≡ Some n →
+        network.IsFirstBy n until first.side }
     ensures clock { (k : ℕ) (n : At) → slice_get networks.new k ≡ Some n →
         network.IsUntil n until }
     ensures length { length networks.new ≡ length networks.old }
-    ensures others { AreOthersSame switch.0 networks.old networks.new }
-    ensures none { (n : At) → slice_get networks.old switch.0 ≡ Some n →
-        IfNone result (network.IsQuiet n until) }
+    ensures others { AreOthersSame first.switch.0 networks.old networks.new }
     ensures gives { (c : Plan) (at : ℕ) (ring : List OnCable) (so_far : List SwitchEvent) →
         IsPlan c → Stands c networks.old at ring so_far →
-        IfSome result (GivesAt c networks.new at ring so_far switch.0 until) }
+        GivesAt c networks.new at ring so_far first.switch.0 until result }
 {
-    let place = switch.index();
-    networks[place].take(until)
+    let place = first.switch.index();
+    networks[place].take_first(first.side, until)
 }
 
 /// A frame that left another switch arrives at the end of its cable, at a port of this one, when it

@@ -14,10 +14,10 @@ pub(crate) const ENTRIES: usize = 25;
 /// A frame on a cable, which ends at a port of this switch, with the switch that it left.
 #[derive(Drop)]
 pub(crate) struct InTransit {
+    pub departure: Departure,
     pub switch: SwitchId,
     pub port: u8,
     pub from: SwitchId,
-    pub departure: Departure,
 }
 
 /// The other end of the cable at a port of a switch, if one is there.

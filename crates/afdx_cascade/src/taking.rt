@@ -129,8 +129,5 @@ pub(crate) fn turn_next(
         return Ok(None);
     }
     transit.try_reserve(1)?;
-    match turn_at(networks, ends, transit, first.switch, at) {
-        None => unreachable!(),
-        Some(turned) => Ok(Some(turned)),
-    }
+    Ok(Some(turn_at(networks, ends, transit, first, at)))
 }

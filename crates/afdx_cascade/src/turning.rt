@@ -1,7 +1,7 @@
 //! A turn of one of several switches is over, or the frame at the front of the ring arrives. The
 //! ring holds the frames that cables carry now, in the order in which they arrive.
 
-ghost use Rattle.std.specs.Prelude.{◌≡◌, ℕ, ◌+◌, ◌*◌, ◌<◌, ◌≤◌, ◌∷◌, List, IfSome, IfNone, IfOk, OnErr, Some, None, length, slice_get};
+ghost use Rattle.std.specs.Prelude.{◌≡◌, ℕ, ◌+◌, ◌*◌, ◌<◌, ◌≤◌, ◌∷◌, List, IfOk, OnErr, Some, None, length, slice_get};
 ghost use Rattle.std.specs.VecDeque.{deque_len, deque_capacity};
 ghost use Rattle.afdx_switch.specs.Departures.{as_given};
 ghost use Rattle.afdx_switch.specs.Verdicts.{shape_fault};
@@ -18,6 +18,7 @@ ghost use Rattle.afdx_cascade.specs.Turning.{CanArrive, switch_of};
 
 use crate::arriving::{bring_at, early_by, give_back_at, take_at};
 use crate::cable::{InTransit, far_end};
+use crate::scan::FirstTurn;
 use crate::told::{Happened, SitedPort};
 use afdx_config::{FarEnd, SwitchId};
 use afdx_network::Network;
@@ -27,53 +28,54 @@ use std::collections::VecDeque;
 /// The latest time at which a frame may arrive, in ns: what leaves later arrives nowhere.
 const LATEST_ARRIVAL: u64 = 1_000_032_768_000_000;
 
-/// The next turn of a switch that is given by `until`. A frame that a cable then carries joins the
-/// ring, which has room for it.
+/// The first turn of all switches, which is given by `until`. A frame that a cable then carries
+/// joins the ring, which has room for it.
 pub(crate) fn turn_at(
     networks: &mut [Network],
     ends: &[Option<FarEnd>],
     transit: &mut VecDeque<InTransit>,
-    switch: SwitchId,
+    first: FirstTurn,
     until: u64,
-) -> Option<Happened>
-    requires within { switch.0 < length networks.old }
+) -> Happened
+    requires within { first.switch.0 < length networks.old }
     requires few { length networks.old ≤ switches_most }
     requires clock { (k : ℕ) (n : At) → slice_get networks.old k ≡ Some n →
         network.IsUntil n until }
+    requires first { (n : At) → slice_get networks.old first.switch.0 ≡ Some n →
+        network.IsFirstBy n until first.side }
     requires room { deque_len transit.old < deque_capacity transit.old }
     ensures clock { (k : ℕ) (n : At) → slice_get networks.new k ≡ Some n →
         network.IsUntil n until }
     ensures length { length networks.new ≡ length networks.old }
-    ensures others { AreOthersSame switch.0 networks.old networks.new }
-    ensures none { (n : At) → slice_get networks.old switch.0 ≡ Some n →
-        IfNone result (network.IsQuiet n until) }
+    ensures others { AreOthersSame first.switch.0 networks.old networks.new }
     ensures gives { (c : Plan) (at : ℕ) (ring : List OnCable) (so_far : List SwitchEvent) →
         IsPlan c → AreEnds c ends.now → Stands c networks.old at ring so_far →
         AreInTransit c transit.old.items ring →
-        IfSome result (TurnsAt c networks.new transit.new.items at ring so_far switch.0 until) }
+        TurnsAt c networks.new transit.new.items at ring so_far first.switch.0 until result }
 {
-    let departure = take_at(networks, switch, until)?;
+    let departure = take_at(networks, first, until);
+    let switch = first.switch;
     if departure.too_old() {
-        return Some(Happened::Ended { switch, departure });
+        return Happened::Ended { switch, departure };
     }
     let time = departure.time();
     if time > LATEST_ARRIVAL {
-        return Some(Happened::Ended { switch, departure });
+        return Happened::Ended { switch, departure };
     }
     let port = departure.port();
     match far_end(ends, switch, port) {
-        None => Some(Happened::Ended { switch, departure }),
+        None => Happened::Ended { switch, departure },
         Some(to) => {
             let side = departure.side();
             let tag = departure.tag();
             transit.push_back_reserved(InTransit {
+                departure,
                 switch: to.switch,
                 port: to.port,
                 from: switch,
-                departure,
             });
             let at = SitedPort { switch, side, port };
-            Some(Happened::Carried { at, time, tag })
+            Happened::Carried { at, time, tag }
         }
     }
 }
@@ -124,10 +126,9 @@ pub(crate) fn front_at(
         unreachable!()
     };
     let InTransit {
-        switch: _,
-        port: _,
-        from,
         departure,
+        from,
+        ..
     } = arrived;
     give_back_at(networks, from, departure);
     let at = SitedPort { switch, side, port };

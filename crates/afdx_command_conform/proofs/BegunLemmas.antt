@@ -1,5 +1,6 @@
 -- What a run has begun to tell.
-use Rattle.std.proofs.Common.{◌≡◌, ℕ, ◌≤◌, Bool, true, false, List, [], ◌∷◌, ◌++◌, inr, refl, sym, ap, ◌∙◌, subst, arith}
+use Rattle.std.proofs.Common.{◌≡◌, ℕ, ◌≤◌, true, false, List, [], ◌∷◌, ◌++◌, inl, inr, map, refl, sym, ap, ◌∙◌, subst, arith}
+use Rattle.std.proofs.KnownBytes.{Appends-nil, Appends-trans}
 use Rattle.std.proofs.lemmas.Bool.{le-ltb}
 use Rattle.std.specs.Io.KnownBytes.{Appends}
 use Rattle.std.specs.Prelude.{Err, None, Ok, OnErr, Option, Result, Some, cond, filter, nat_lt}
@@ -8,17 +9,17 @@ use Rattle.afdx_input_runs.specs.Joining.{Frame}
 use Rattle.afdx_input_lines.specs.Calls.{AppendsFront}
 use Rattle.afdx_text.proofs.OutputLemmas.{front-more, whole_front}
 use Rattle.afdx_text.specs.declared.conform_line.ConformLine.{ConformLine}
-use Rattle.afdx_command_conform.specs.Beginning.{AreEarly, AreFirstLines, BeginsFrom, IsEndFrom}
+use Rattle.afdx_command_conform.specs.AllLines.{AreSomeLines}
+use Rattle.afdx_command_conform.specs.Beginning.{AreDueEarly, AreDueFirst, AreEarly, AreFirstLines}
 use Rattle.afdx_command_conform.specs.Choices.{Choices, latest_of, until_or}
 use Rattle.afdx_command_conform.specs.Keeping.{IsSomeUpTo}
-use Rattle.afdx_command_conform.specs.Lines.{AreInOrder, Due, dues_of}
+use Rattle.afdx_command_conform.specs.Lines.{AreInOrder, Due, dues_of, lines_of}
 use Rattle.afdx_command_conform.specs.Telling.{lines_text}
-use Rattle.afdx_command_conform.specs.Told.{GoesOn, HasBegun, Stands}
-use Rattle.afdx_command_conform.specs.AllLines.{AreSomeLines, BeginsAll}
+use Rattle.afdx_command_conform.specs.Told.{GoesOn, HasTold, IsJudgedSoFar, Stands, TellsItems, told_by}
 use Rattle.afdx_command_conform.specs.Written.{Begins}
 use Rattle.afdx_command_conform.specs.declared.judging.JudgingRun.{JudgingRun}
-use Rattle.afdx_command_conform.proofs.EarlyLemmas.{comes-later, last-first, stands-begun}
-use Rattle.afdx_command_conform.proofs.TellingLemmas.{text-append}
+use Rattle.afdx_command_conform.proofs.FullLemmas.{lines-by}
+use Rattle.afdx_command_conform.proofs.TellingLemmas.{no-text, text-append}
 
 -- ---- texts
 
@@ -50,9 +51,9 @@ goes-on k time until ended frames le said none = record {
 }
 
 -- to the time of a frame
-pub goes-past : (k : Rows × Choices) (time : ℕ) (j : JudgingRun) (lines : List ConformLine) (frames : List Frame)
-    → Stands k false time j frames lines → GoesOn k false time time (Some time) j.streams.ended frames
-goes-past k time j lines frames stands = record {
+pub goes-past : (k : Rows × Choices) (time : ℕ) (j : JudgingRun) (dues : List Due) (frames : List Frame)
+    → Stands k false time j frames dues → GoesOn k false time time (Some time) j.streams.ended frames
+goes-past k time j dues frames stands = record {
   later = omega arith;
   running = λ e. refl;
   early = λ e. refl;
@@ -61,11 +62,11 @@ goes-past k time j lines frames stands = record {
 }
 
 -- and once all came
-pub goes-last : (k : Rows × Choices) (time : ℕ) (j : JudgingRun) (lines : List ConformLine) (frames : List Frame)
+pub goes-last : (k : Rows × Choices) (time : ℕ) (j : JudgingRun) (dues : List Due) (frames : List Frame)
     (end : ℕ)
-    → j.streams.ended ≡ Some end → Stands k true time j frames lines → GoesOn k true time time None j.streams.ended
+    → j.streams.ended ≡ Some end → Stands k true time j frames dues → GoesOn k true time time None j.streams.ended
     frames
-goes-last k time j lines frames end at stands = record {
+goes-last k time j dues frames end at stands = record {
   later = omega arith;
   running = λ e. absurd (let bad = sym e ∙ at in cc bad);
   early = λ e. absurd (cc);
@@ -75,60 +76,55 @@ goes-last k time j lines frames end at stands = record {
 
 -- ---- a beginning
 
-pub begun-as : (k : Rows × Choices) (last : Bool) (time : ℕ) (ended : Option ℕ) (old new : Option (List ℕ))
-    (frames : List Frame)
-    → ended ≡ None → HasBegun k last time ended old new frames → HasBegun k last time None old new frames
-begun-as k last time ended old new frames none h = subst (λ e. HasBegun k last time e old new frames) none h
+-- some are told, and some of these, or some of those behind them
+module _ (start old new : Option (List ℕ)) (dues : List Due)
+    (told : Appends start old (lines_text (lines_of dues))) where
+  pub tells-by : (more : List Due) {shown : List Due} → shown ≡ more
+      → Appends old new (lines_text (map (λ (d : Due). d.line) shown))
+      → Appends start new (lines_text (lines_of (told_by more dues)))
+  tells-by more same h = subst (λ (l : List ConformLine). Appends start new (lines_text l)) (sym (lines-by more dues))
+      (subst (λ (l : List ℕ). Appends start new l) (sym (text-append (lines_of dues) (map (λ (d : Due). d.line) more)))
+      (Appends-trans start old new (lines_text (lines_of dues)) (lines_text (map (λ (d : Due). d.line) more)) told
+      (subst (λ (xs : List Due). Appends old new (lines_text (map (λ (d : Due). d.line) xs))) same h)))
 
-pub begun-from : {V E : Type 0} (r : Result V E) (k : Rows × Choices) (until time : ℕ) (ended : Option ℕ)
-    (old new : Option (List ℕ))
-    (frames : List Frame) → latest_of frames ≤ until → until ≤ time
-    → OnErr r (HasBegun k false until ended old new frames)
-    → OnErr r (BeginsFrom k time old new frames)
-begun-from (Ok v) k until time ended old new frames latest le h = tt
-begun-from (Err e) k until time ended old new frames latest le (j, lines, begun, is, stands) = (
-  lines,
-  begun,
-  comes-later (λ end all dues. AreFirstLines k.0 k.1 end all dues) k until time frames lines le
-      (stands-begun k frames until j lines latest stands),
-)
+  pub begins-by : (more : List Due) {shown : List Due} → shown ≡ more
+      → AppendsFront old new (lines_text (map (λ (d : Due). d.line) shown))
+      → AppendsFront start new (lines_text (lines_of (told_by more dues)))
+  begins-by more same h = subst (λ (l : List ConformLine). AppendsFront start new (lines_text l))
+      (sym (lines-by more dues))
+      (text-more start old new (lines_of dues) (map (λ (d : Due). d.line) more) told
+      (subst (λ (xs : List Due). AppendsFront old new (lines_text (map (λ (d : Due). d.line) xs))) same h))
 
-pub begun-all : {V E : Type 0} (r : Result V E) (k : Rows × Choices) (until : ℕ) (ended : Option ℕ)
-    (old new : Option (List ℕ))
-    (frames : List Frame) → latest_of frames ≤ until → IsEndFrom k.1.until until (until_or k.1.until frames)
-    → OnErr r (HasBegun k false until ended old new frames)
-    → OnErr r (BeginsAll k frames old new)
-begun-all (Ok v) k until ended old new frames latest may h = tt
-begun-all (Err e) k until ended old new frames latest may (j, lines, begun, is, stands) =
-    let first = stands-begun k frames until j lines latest stands (until_or k.1.until frames) [] may tt in
-    record {
-      lines = lines;
-      are_so = record { dues = first.0; are = first.1; are_first = first.2 };
-      begun = begun;
-    }
+module _ (k : Rows × Choices) (frames : List Frame) (old new : Option (List ℕ)) (dues : List Due)
+    (begun : AppendsFront old new (lines_text (lines_of dues))) where
+  -- they are the first, whatever comes
+  pub some-first : AreDueFirst k (latest_of frames) frames dues → Begins old new (AreSomeLines k frames)
+  some-first h = record { lines = lines_of dues; are_so = inl (dues, refl, h); begun = begun }
 
-pub begun-last : {V E : Type 0} (r : Result V E) (k : Rows × Choices) (time : ℕ) (ended : Option ℕ) (end : ℕ)
-    (old new : Option (List ℕ)) (frames : List Frame) → ended ≡ Some end
-    → OnErr r (HasBegun k true time ended old new frames)
-    → OnErr r (BeginsAll k frames old new)
-begun-last (Ok v) k time ended end old new frames at h = tt
-begun-last (Err e) k time ended end old new frames at (j, lines, begun, is, stands) =
-    let first = last-first k frames time j lines end (is ∙ at) stands in
-    record {
-      lines = lines;
-      are_so = record { dues = first.0; are = first.1; are_first = first.2 };
-      begun = begun;
-    }
+  -- or where no more comes
+  pub all-first-lines : AreFirstLines k.0 k.1 (until_or k.1.until frames) frames dues
+      → Begins old new (AreSomeLines k frames)
+  all-first-lines h = record {
+    lines = lines_of dues;
+    are_so = inr (record { dues = dues; are = refl; are_first = h });
+    begun = begun;
+  }
 
--- of all lines the first are some of the first
-pub all-are-some : (k : Rows × Choices) (frames : List Frame) (old new : Option (List ℕ)) → BeginsAll k frames old new
-    → Begins old new (AreSomeLines k frames)
-all-are-some k frames old new h = record { lines = h.lines; are_so = inr h.are_so; begun = h.begun }
+pub err-on : {V E P Q : Type 0} → (P → Q) → (r : Result V E) → OnErr r P → OnErr r Q
+err-on f (Ok v) h = tt
+err-on f (Err e) h = f h
 
-pub on-err-all : {V E : Type 0} (r : Result V E) (k : Rows × Choices) (frames : List Frame) (old new : Option (List ℕ))
-    → OnErr r (BeginsAll k frames old new) → OnErr r (Begins old new (AreSomeLines k frames))
-on-err-all (Ok v) k frames old new h = tt
-on-err-all (Err e) k frames old new h = all-are-some k frames old new h
+-- nothing is written yet
+pub tells-none : (k : Rows × Choices) (j : JudgingRun) (output : Option (List ℕ)) → IsJudgedSoFar k j [] []
+    → TellsItems k j output output []
+tells-none k j output h =
+    ([], h, subst (λ (l : List ℕ). Appends output output l) (sym no-text) (Appends-nil output))
+
+-- of an empty list of what is due
+pub none-due-yet : (k : Rows × Choices) (time : ℕ) (j : JudgingRun) (frames : List Frame) (dues : List Due)
+    {due : List Due} → due ≡ [] → HasTold k false time j frames dues → HasTold k false time j frames (told_by due dues)
+none-due-yet k time j frames dues none h = subst (λ (xs : List Due). HasTold k false time j frames (told_by xs dues))
+    (sym none) h
 
 -- ---- nothing is told
 
@@ -142,13 +138,12 @@ nothing-in-order : AreInOrder []
 unfolding AreInOrder
 nothing-in-order = tt
 
+pub nothing-due : (k : Rows × Choices) → AreDueEarly k 0 [] []
+nothing-due k until more may late = record {
+  own = λ key small. none-before (dues_of k.0 k.1 until (more ++ []) key);
+  only = λ key large. refl;
+  in_order = nothing-in-order;
+}
+
 pub nothing-early : (k : Rows × Choices) → AreEarly k 0 [] []
-nothing-early k until more may late = (
-  [],
-  refl,
-  record {
-    own = λ key small. none-before (dues_of k.0 k.1 until (more ++ []) key);
-    only = λ key large. refl;
-    in_order = nothing-in-order;
-  },
-)
+nothing-early k = ([], refl, nothing-due k)

@@ -36,7 +36,7 @@ down-up (t ∷ ts) h =
     subst (λ (l : List ℕ). GoUp l) (sym (reverse-first t ts))
     (up-last (reverse ts) t (down-up ts h.1) (every-reverse (λ u. u ≤ t) ts h.0))
 
-map-reverse : {X Y : Type 0} (f : X → Y) (xs : List X) → map f (reverse xs) ≡ reverse (map f xs)
+pub map-reverse : {X Y : Type 0} (f : X → Y) (xs : List X) → map f (reverse xs) ≡ reverse (map f xs)
 map-reverse f [] = refl
 map-reverse f (x ∷ xs) =
     ap (λ l. map f l) (reverse-first x xs) ∙ map-last (reverse xs) x
@@ -79,6 +79,10 @@ pub all-before : (t : ℕ) (frames : List Frame) → AreByTime frames → latest
 unfolding AreByTime
 all-before t [] h le = tt
 all-before t (x ∷ frames) h le = (le, all-before t frames h.1 (let a = h.0 in omega (arith, a, le)))
+
+pub none-by-time : AreByTime []
+unfolding AreByTime
+none-by-time = tt
 
 times-before : (t : ℕ) (frames : List Frame) → AllByRecursion (λ x. x.arrival.time ≤ t) frames
     → AllByRecursion (λ u. u ≤ t) (map time_of frames)

@@ -15,7 +15,7 @@ use Rattle.afdx_conform.specs.Streams.{Gone, Terms}
 use Rattle.afdx_conform.specs.declared.counts.Counts.{Counts}
 use Rattle.afdx_input_runs.specs.Joining.{Frame}
 use Rattle.afdx_command_conform.specs.Choices.{Choices, left_out_of, until_or}
-use Rattle.afdx_command_conform.specs.Counting.{Counted, HasCounted, both_counted, counted_among, counted_at, counted_of, counted_to, has_some, idle_if, is_told, none_counted, stream_counted, totals_of}
+use Rattle.afdx_command_conform.specs.Counting.{Counted, HasCounted, both_counted, counted_among, counted_at, counted_of, counted_to, has_some, idle_if, is_told, none_counted, stream_counted, totals_and, totals_of, totals_with}
 use Rattle.afdx_command_conform.specs.Frames.{arrivals_of, frames_of, link_to, terms_at}
 use Rattle.afdx_command_conform.specs.Keeping.{given_of, given_to}
 use Rattle.afdx_command_conform.specs.Keys.{key_with}
@@ -258,17 +258,26 @@ module _ (t : Rows) (c : Choices) (until : ℕ) (frames : List Frame) where
 
 -- ---- of a run
 
-pub totals-are : (k : Rows × Choices) (frames : List Frame) (dues : List Due) (totals : Totals)
-    → totals.findings ≡ min (findings_in (lines_of dues)) most_counted
+pub more-found : (n more old new : ℕ) → old ≡ min n most_counted → new ≡ min (old + more) most_counted
+    → new ≡ min (n + more) most_counted
+more-found n more old new before here = omega (arith, before, here)
+
+-- without more findings
+pub no-more : (k : Rows × Choices) (frames : List Frame) (dues : List Due)
+    → totals_and 0 k frames dues ≡ totals_of k frames dues
+no-more k frames dues = ap (λ (n : ℕ). totals_with n (left_out_of k.0 k.1 frames) (unseen_of k.0 k.1.taps) k.1.exercised
+    (counted_of k.0 k.1 (until_or k.1.until frames) frames)) (omega arith)
+
+pub totals-are : (more : ℕ) (k : Rows × Choices) (frames : List Frame) (dues : List Due) (totals : Totals)
+    → totals.findings ≡ min (findings_in (lines_of dues) + more) most_counted
     → totals.left_out ≡ min (left_out_of k.0 k.1 frames) most_counted
     → totals.unseen ≡ unseen_of k.0 k.1.taps
     → totals.is_exercised ≡ k.1.exercised
     → HasCounted (counted_of k.0 k.1 (until_or k.1.until frames) frames) totals
-    → totals ≡ totals_of k frames dues
-totals-are k frames dues totals findings left_out unseen exercised has =
-    same totals (totals_of k frames dues) findings has.explained has.waiting has.uncertain left_out unseen has.idle
-    has.is_unsure
-    exercised
+    → totals ≡ totals_and more k frames dues
+totals-are more k frames dues totals findings left_out unseen exercised has =
+    same totals (totals_and more k frames dues) findings has.explained has.waiting has.uncertain left_out unseen
+    has.idle has.is_unsure exercised
   where
     same : (a b : Totals) → a.findings ≡ b.findings → a.explained ≡ b.explained → a.waiting ≡ b.waiting
         → a.uncertain ≡ b.uncertain

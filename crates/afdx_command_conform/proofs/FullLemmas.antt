@@ -1,6 +1,6 @@
 -- What a run has told, whichever end comes.
 use Rattle.std.proofs.Common.{◌≡◌, ℕ, ◌<◌, ◌≤◌, inl, inr, Bool, true, false, ◌&&◌, List, [], ◌∷◌, ◌++◌, map, length, refl, sym, ap, ◌∙◌, subst, arith, true≢false}
-use Rattle.std.proofs.lemmas.List.{map-append, reverse-append, reverse-reverse}
+use Rattle.std.proofs.lemmas.List.{append_assoc, map-append, reverse-append, reverse-reverse}
 use Rattle.std.proofs.lemmas.Option.{same_Some}
 use Rattle.std.specs.Prelude.{Err, Ok, OnOk, Result, Option, Some, None, IfSome, IfNone, is_some, nat_le, nat_lt, not, reverse}
 use Rattle.afdx_config.specs.Rows.{LinkRow, Rows}
@@ -15,8 +15,9 @@ use Rattle.std.proofs.lemmas.Bool.{and_parts, le-leb, leb-true, lt-ltb}
 use Rattle.afdx_command_conform.specs.Keeping.{AreKept, Given, IsStreamOf, KeyStands, given_of, is_known, slot_at}
 use Rattle.afdx_command_conform.specs.Lines.{Due, due_at, of_key}
 use Rattle.afdx_command_conform.specs.Slots.{AreFalling, StreamStands, told_at}
+use Rattle.afdx_command_conform.specs.RunLaws.{AreByTime}
 use Rattle.afdx_command_conform.specs.Standing.{IsBehindAll, StreamsStand}
-use Rattle.afdx_command_conform.specs.Told.{IsEndFor, IsEnding, MayEnd, StandsIf, Stands, lines_of}
+use Rattle.afdx_command_conform.specs.Told.{IsEndFor, IsEnding, MayEnd, StandsIf, Stands, lines_of, told_by}
 use Rattle.afdx_conform.proofs.EveryLemmas.{every-on}
 use Rattle.std.specs.List.{AllByRecursion}
 use Rattle.afdx_command_conform.specs.declared.judging.JudgingRun.{JudgingRun}
@@ -25,6 +26,7 @@ use Rattle.afdx_command_conform.specs.declared.kept.KeptByKey.{KeptByKey}
 use Rattle.afdx_command_conform.specs.declared.slot.Slot.{Slot}
 use Rattle.afdx_command_conform.specs.declared.slot.Slot.TheVariants as slot
 use Rattle.afdx_command_conform.specs.declared.streams.Streams.{Streams}
+use Rattle.afdx_command_conform.proofs.ByTimeLemmas.{all-before, map-reverse}
 use Rattle.afdx_command_conform.proofs.AddedLemmas.{from-ended, from-stream, from-strangers, to-ended, to-stream, to-strangers}
 use Rattle.afdx_command_conform.proofs.GivenLemmas.{counted-less, given-from, given_from, kept-same}
 use Rattle.afdx_command_conform.proofs.StepLemmas.{known-cases}
@@ -133,11 +135,24 @@ lines-told key m out dues =
     ∙ reverse-append (reverse out) (map (λ (d : Due). d.line) dues)
     ∙ ap (λ l. lines_of dues ++ l) (reverse-reverse out)
 
--- ---- what stands
+-- what is told behind some lines
+pub lines-by : (more dues : List Due) → lines_of (told_by more dues) ≡ lines_of dues ++ map (λ (d : Due). d.line) more
+lines-by more dues =
+    ap (λ l. reverse l) (map-append (λ (d : Due). d.line) (reverse more) dues)
+    ∙ reverse-append (map (λ (d : Due). d.line) (reverse more)) (map (λ (d : Due). d.line) dues)
+    ∙ ap (λ l. lines_of dues ++ l) (ap (λ l. reverse l) (map-reverse (λ (d : Due). d.line) more)
+    ∙ reverse-reverse (map (λ (d : Due). d.line) more))
 
--- until the last frame came they have moments before this time
-abbrev pub AreBefore : Bool → ℕ → List Due → Type 0
-AreBefore last time dues = last ≡ false → AllByRecursion (λ d. d.moment < time) dues
+-- more of one moment
+pub told-more : (key : Key) (m : ℕ) (out : List ConformLine) (old new dues : List Due)
+    → new ≡ old ++ map (due_at key m) out → told_by new dues ≡ told_at key m out (told_by old dues)
+told-more key m out old new dues e =
+    ap (λ l. reverse l ++ dues) e
+    ∙ ap (λ l. l ++ dues) (reverse-append old (map (due_at key m) out))
+    ∙ append_assoc (reverse (map (due_at key m) out)) (reverse old) dues
+    ∙ ap (λ l. l ++ (reverse old ++ dues)) (sym (map-reverse (due_at key m) out))
+
+-- ---- what stands
 
 before-later : (time to : ℕ) (dues : List Due) → time ≤ to → AllByRecursion (λ d. d.moment < time) dues
     → AllByRecursion (λ d. d.moment < to) dues
@@ -153,55 +168,37 @@ told-before key m time items dues lt all = go (reverse items)
     go (x ∷ xs) = (lt, go xs)
 
 module _ (k : Rows × Choices) (frames : List Frame) where
-  -- with other streams, of the same end
-  pub stands-to : (last : Bool) (time : ℕ) (j i : JudgingRun) (lines more : List ConformLine)
-      → ((until : ℕ) (dues : List Due) → StreamsStand k.0 k.1 until frames dues time j.streams
-      → AreBefore last time dues
-      → (d : List Due) × (lines_of d ≡ lines_of dues ++ more) × StreamsStand k.0 k.1 until frames d time i.streams
-      × AreBefore last time d)
+  -- with the lines of one moment that are taken
+  pub stands-taken : (last : Bool) (time : ℕ) (j i : JudgingRun) (dues : List Due) (key : Key) (m : ℕ)
+      (items : List ConformLine)
+      → ((until : ℕ) → StreamsStand k.0 k.1 until frames dues time j.streams
+      → StreamsStand k.0 k.1 until frames (told_at key m items dues) time i.streams)
+      → (last ≡ false → m < time)
       → i.streams.ended ≡ j.streams.ended
-      → Stands k last time j frames lines → Stands k last time i frames (lines ++ more)
-  stands-to last time j i lines more next ended stands = record {
+      → Stands k last time j frames dues → Stands k last time i frames (told_at key m items dues)
+  stands-taken last time j i dues key m items next early ended stands = record {
     all = λ until may.
         let old = stands.all until (subst (λ e. MayEnd k.1.until frames e until) ended may) in
-        let new = next until old.dues old.streams old.early in
-        record { dues = new.0; are = ap (λ l. l ++ more) old.are ∙ sym new.1; streams = new.2; early = new.3 };
+        record {
+          streams = next until old.streams;
+          early = λ e. told-before key m time items dues (early e) (old.early e);
+        };
     by_time = stands.by_time;
     running = λ end none said. stands.running end (sym ended ∙ none) said;
     ends = λ end is. stands.ends end (sym ended ∙ is);
   }
 
-  -- with the lines of one moment that are taken
-  pub stands-taken : (last : Bool) (time : ℕ) (j i : JudgingRun) (lines out : List ConformLine) (key : Key) (m : ℕ)
-      (items : List ConformLine)
-      → out ≡ items
-      → ((until : ℕ) (dues : List Due) → StreamsStand k.0 k.1 until frames dues time j.streams
-      → StreamsStand k.0 k.1 until frames (told_at key m items dues) time i.streams)
-      → (last ≡ false → m < time)
-      → i.streams.ended ≡ j.streams.ended
-      → Stands k last time j frames lines → Stands k last time i frames (lines ++ out)
-  stands-taken last time j i lines out key m items same next early ended stands =
-      stands-to last time j i lines out
-      (λ until dues s before. (
-        told_at key m items dues,
-        lines-told key m items dues ∙ ap (λ x. lines_of dues ++ x) (sym same),
-        next until dues s,
-        λ e. told-before key m time items dues (early e) (before e),
-      )) ended stands
-
   pub stands-later : (last after : Bool) → (after ≡ false → last ≡ false)
-      → (time to : ℕ) (j : JudgingRun) (lines : List ConformLine)
+      → (time to : ℕ) (j : JudgingRun) (dues : List Due)
       → time ≤ to
       → ((end : ℕ) → j.streams.ended ≡ None → k.1.until ≡ Some end → to ≤ end)
       → ((end : ℕ) → j.streams.ended ≡ Some end → IsEnding after k.1.until frames to end)
-      → Stands k last time j frames lines → Stands k after to j frames lines
-  stands-later last after same time to j lines le running ends stands = record {
+      → Stands k last time j frames dues → Stands k after to j frames dues
+  stands-later last after same time to j dues le running ends stands = record {
     all = λ until may. let old = stands.all until may in
         record {
-          dues = old.dues;
-          are = old.are;
-          streams = stand-later k.0 k.1 until time to le frames old.dues j.streams old.streams;
-          early = λ e. before-later time to old.dues le (old.early (same e));
+          streams = stand-later k.0 k.1 until time to le frames dues j.streams old.streams;
+          early = λ e. before-later time to dues le (old.early (same e));
         };
     by_time = stands.by_time;
     running = running;
@@ -209,24 +206,22 @@ module _ (k : Rows × Choices) (frames : List Frame) where
   }
 
   -- the end is known
-  pub stands-ended : (after : Bool) (time until to : ℕ) (j i : JudgingRun) (lines : List ConformLine) → time ≤ until
+  pub stands-ended : (after : Bool) (time until to : ℕ) (j i : JudgingRun) (dues : List Due) → time ≤ until
       → until ≤ to
       → latest_of frames ≤ until → IsEndFor k.1.until frames until → IsEnding after k.1.until frames to until
       → j.streams.ended ≡ None → i.streams.ended ≡ Some until
-      → ((dues : List Due) → StreamsStand k.0 k.1 until frames dues time j.streams
+      → (StreamsStand k.0 k.1 until frames dues time j.streams
       → StreamsStand k.0 k.1 until frames dues time i.streams)
-      → Stands k false time j frames lines → Stands k after to i frames lines
-  stands-ended after time until to j i lines le-until le-to le-latest may ending none ended next stands = record {
+      → Stands k false time j frames dues → Stands k after to i frames dues
+  stands-ended after time until to j i dues le-until le-to le-latest may ending none ended next stands = record {
     all = λ u at.
         let same : u ≡ until = subst (λ e. MayEnd k.1.until frames e u) ended at in
         let old = stands.all until (subst (λ e. MayEnd k.1.until frames e until) (sym none) may) in
-        subst (λ n. StandsIf k.0 k.1 after n frames lines to i.streams) (sym same)
+        subst (λ n. StandsIf k.0 k.1 after n frames dues to i.streams) (sym same)
         (record {
-          dues = old.dues;
-          are = old.are;
-          streams = stand-later k.0 k.1 until time to (omega (arith, le-until, le-to)) frames old.dues i.streams
-              (next old.dues old.streams);
-          early = λ e. before-later time to old.dues (omega (arith, le-until, le-to)) (old.early refl);
+          streams = stand-later k.0 k.1 until time to (omega (arith, le-until, le-to)) frames dues i.streams
+              (next old.streams);
+          early = λ e. before-later time to dues (omega (arith, le-until, le-to)) (old.early refl);
         });
     by_time = stands.by_time;
     running = λ end no said. let bad : None ≡ Some until = sym no ∙ ended in absurd (cc);
@@ -234,16 +229,16 @@ module _ (k : Rows × Choices) (frames : List Frame) where
         (λ n. IsEnding after k.1.until frames to n) same ending;
   }
 
-  pub raised : (time to : ℕ) (j : JudgingRun) (lines : List ConformLine) → time ≤ to
+  pub raised : (time to : ℕ) (j : JudgingRun) (dues : List Due) → time ≤ to
       → ((end : ℕ) → j.streams.ended ≡ None → k.1.until ≡ Some end → to ≤ end)
-      → Stands k false time j frames lines → Stands k false to j frames lines
-  raised time to j lines le running stands = stands-later false false (λ e. e) time to j lines le running
+      → Stands k false time j frames dues → Stands k false to j frames dues
+  raised time to j dues le running stands = stands-later false false (λ e. e) time to j dues le running
       (λ end is. let e = stands.ends end is in (e.0, let lt = e.1 in omega (arith, lt, le))) stands
 
   -- once all came, the end that was said is it
-  pub stands-last : (time : ℕ) (j : JudgingRun) (lines : List ConformLine) → Stands k false time j frames lines
-      → Stands k true time j frames lines
-  stands-last time j lines stands = stands-later false true (λ e. refl) time time j lines (omega arith) stands.running
+  pub stands-last : (time : ℕ) (j : JudgingRun) (dues : List Due) → Stands k false time j frames dues
+      → Stands k true time j frames dues
+  stands-last time j dues stands = stands-later false true (λ e. refl) time time j dues (omega arith) stands.running
       (λ end is. sym (ap (λ o. until_or o frames) (stands.ends end is).0)) stands
 
 -- some end may come
@@ -265,13 +260,8 @@ pub none-end : (said : Option ℕ) (frames : List Frame) (end : ℕ) → said �
 none-end None frames end is le = le
 none-end (Some e) frames end is le = absurd (cc is)
 
-pub behind-later : (frames : List Frame) (to : ℕ) → latest_of frames ≤ to → IsBehindAll (latest_of frames) frames
-    → IsBehindAll to frames
-behind-later frames to le all = go frames (latest_of frames) le all
-  where
-    go : (xs : List Frame) (time : ℕ) → time ≤ to → IsBehindAll time xs → IsBehindAll to xs
-    go [] time le' all' = tt
-    go (x ∷ xs) time le' all' = (let h = all'.0 in omega (arith, h, le'), go xs time le' all'.1)
+pub behind-later : (frames : List Frame) (to : ℕ) → latest_of frames ≤ to → AreByTime frames → IsBehindAll to frames
+behind-later frames to le order = all-before to frames order le
 
 pub some-there : {X : Type 0} (o : Option X) (x : X) (P : X → Type 0) → o ≡ Some x → IfSome o P → P x
 some-there None x P is h = absurd (cc is)
@@ -283,15 +273,15 @@ none-there (Some y) is h = absurd (cc is)
 
 -- with no more lines
 pub stands-same : (k : Rows × Choices) (frames : List Frame) (last : Bool) (time : ℕ) (j i : JudgingRun)
-    (lines : List ConformLine)
-    → ((until : ℕ) (dues : List Due) → StreamsStand k.0 k.1 until frames dues time j.streams
+    (dues : List Due)
+    → ((until : ℕ) → StreamsStand k.0 k.1 until frames dues time j.streams
     → StreamsStand k.0 k.1 until frames dues time i.streams)
     → i.streams.ended ≡ j.streams.ended
-    → Stands k last time j frames lines → Stands k last time i frames lines
-stands-same k frames last time j i lines next ended stands = record {
+    → Stands k last time j frames dues → Stands k last time i frames dues
+stands-same k frames last time j i dues next ended stands = record {
   all = λ until may.
       let old = stands.all until (subst (λ e. MayEnd k.1.until frames e until) ended may) in
-      record { dues = old.dues; are = old.are; streams = next until old.dues old.streams; early = old.early };
+      record { streams = next until old.streams; early = old.early };
   by_time = stands.by_time;
   running = λ end none said. stands.running end (sym ended ∙ none) said;
   ends = λ end is. stands.ends end (sym ended ∙ is);
@@ -307,30 +297,31 @@ may-before (Some s) frames x None until le may = may
 may-before None frames x (Some e) until le may = may
 may-before (Some s) frames x (Some e) until le may = may
 
-pub stands-next : (k : Rows × Choices) (frames : List Frame) (x : Frame) (j i : JudgingRun) (lines : List ConformLine)
+pub stands-next : (k : Rows × Choices) (frames : List Frame) (x : Frame) (j i : JudgingRun) (dues : List Due)
     → latest_of frames ≤ x.arrival.time
-    → ((until : ℕ) (dues : List Due) → StreamsStand k.0 k.1 until frames dues x.arrival.time j.streams
+    → ((until : ℕ) → StreamsStand k.0 k.1 until frames dues x.arrival.time j.streams
     → StreamsStand k.0 k.1 until (x ∷ frames) dues x.arrival.time i.streams)
     → i.streams.ended ≡ j.streams.ended
-    → Stands k false x.arrival.time j frames lines → Stands k false x.arrival.time i (x ∷ frames) lines
-stands-next k frames x j i lines le next ended stands = record {
+    → Stands k false x.arrival.time j frames dues → Stands k false x.arrival.time i (x ∷ frames) dues
+unfolding AreByTime
+stands-next k frames x j i dues le next ended stands = record {
   all = λ until may.
       let old = stands.all until (subst (λ e. MayEnd k.1.until frames e until) ended
       (may-before k.1.until frames x i.streams.ended until le may)) in
-      record { dues = old.dues; are = old.are; streams = next until old.dues old.streams; early = old.early };
-  by_time = (omega arith, behind-later frames x.arrival.time le stands.by_time);
+      record { streams = next until old.streams; early = old.early };
+  by_time = (le, stands.by_time);
   running = λ end none said. stands.running end (sym ended ∙ none) said;
   ends = λ end is. stands.ends end (sym ended ∙ is);
 }
 
 pub next-on : {V E : Type 0} (r : Result V E) (k : Rows × Choices) (frames : List Frame) (x : Frame) (j i : JudgingRun)
-    (lines : List ConformLine) → latest_of frames ≤ x.arrival.time
-    → ((until : ℕ) (dues : List Due) → StreamsStand k.0 k.1 until frames dues x.arrival.time j.streams
+    (dues : List Due) → latest_of frames ≤ x.arrival.time
+    → ((until : ℕ) → StreamsStand k.0 k.1 until frames dues x.arrival.time j.streams
     → OnOk r (StreamsStand k.0 k.1 until (x ∷ frames) dues x.arrival.time i.streams))
     → i.streams.ended ≡ j.streams.ended
-    → Stands k false x.arrival.time j frames lines → OnOk r (Stands k false x.arrival.time i (x ∷ frames) lines)
-next-on (Ok v) k frames x j i lines le next ended stands = stands-next k frames x j i lines le next ended stands
-next-on (Err e) k frames x j i lines le next ended stands = tt
+    → Stands k false x.arrival.time j frames dues → OnOk r (Stands k false x.arrival.time i (x ∷ frames) dues)
+next-on (Ok v) k frames x j i dues le next ended stands = stands-next k frames x j i dues le next ended stands
+next-on (Err e) k frames x j i dues le next ended stands = tt
 
 and-not : (a b c : Bool) → b ≡ true → (a && not b && c) ≡ false
 and-not true true c e = refl
@@ -377,9 +368,9 @@ does-count t c x in-time out le = and-all (is_in_time c x) (is_passed t c x)
     (le-leb (length x.arrival.bytes) most_bytes le)
 
 -- while frames count, the end isn't known
-pub running-then : (k : Rows × Choices) (frames : List Frame) (x : Frame) (j : JudgingRun) (lines : List ConformLine)
-    → is_in_time k.1 x ≡ true → Stands k false x.arrival.time j frames lines → j.streams.ended ≡ None
-running-then k frames x j lines in-time stands = by j.streams.ended refl
+pub running-then : (k : Rows × Choices) (frames : List Frame) (x : Frame) (j : JudgingRun) (dues : List Due)
+    → is_in_time k.1 x ≡ true → Stands k false x.arrival.time j frames dues → j.streams.ended ≡ None
+running-then k frames x j dues in-time stands = by j.streams.ended refl
   where
     not-true : (v : Bool) → not v ≡ true → v ≡ false
     not-true false e = refl

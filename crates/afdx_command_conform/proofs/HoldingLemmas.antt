@@ -12,7 +12,7 @@ use Rattle.afdx_command_conform.specs.Holding.{HoldsOneWindow, slot_held}
 use Rattle.afdx_command_conform.specs.Keeping.{AreKept, Given, IsNothingDue, given_of, slot_at}
 use Rattle.afdx_command_conform.specs.Lines.{Due, of_key}
 use Rattle.afdx_command_conform.specs.Slots.{StreamStands}
-use Rattle.afdx_command_conform.specs.Told.{MayEnd, TellsAll}
+use Rattle.afdx_command_conform.specs.Told.{HasTold, MayEnd}
 use Rattle.afdx_command_conform.specs.Waiting.{slot_due}
 use Rattle.afdx_command_conform.specs.declared.judging.JudgingRun.{JudgingRun}
 use Rattle.afdx_command_conform.specs.declared.kept.KeptByKey.{KeptByKey}
@@ -51,12 +51,12 @@ kept-window t c until at time frames lines kept h none k l is =
     (λ m due. ltb-false m time (none k m (known-stream t k l is) due))
 
 -- of all
-pub told-window : (k : Rows × Choices) (last : Bool) (time until : ℕ) (start output : Option (List ℕ))
-    (frames : List Frame) (j : JudgingRun) → j.streams.ended ≡ None → MayEnd k.1.until frames None until
-    → TellsAll k last time j start output frames × IsNothingDue k.0 (Some time) j.streams.kept
+pub told-window : (k : Rows × Choices) (last : Bool) (time until : ℕ) (frames : List Frame) (dues : List Due)
+    (j : JudgingRun) → j.streams.ended ≡ None → MayEnd k.1.until frames None until
+    → HasTold k last time j frames dues × IsNothingDue k.0 (Some time) j.streams.kept
     → HoldsOneWindow k.0 k.1 until frames time j.streams.kept
-told-window k last time until start output frames j running may h =
-    let all = h.0.2.all until (subst (λ (o : Option ℕ). MayEnd k.1.until frames o until) (sym running) may) in
-    kept-window k.0 k.1 until time time frames all.dues j.streams.kept
-    (subst (λ (o : Option ℕ). AreKept k.0 k.1 until o time (given_of k.0 k.1 frames) all.dues j.streams.kept) running
+told-window k last time until frames dues j running may h =
+    let all = h.0.1.all until (subst (λ (o : Option ℕ). MayEnd k.1.until frames o until) (sym running) may) in
+    kept-window k.0 k.1 until time time frames dues j.streams.kept
+    (subst (λ (o : Option ℕ). AreKept k.0 k.1 until o time (given_of k.0 k.1 frames) dues j.streams.kept) running
     all.streams.kept) h.1

@@ -39,3 +39,4 @@ pub mod ShownLemmas
 pub mod EarlyLawLemmas
 pub mod NamedLemmas
 pub mod HoldingLemmas
+pub mod QuietRunLemmas

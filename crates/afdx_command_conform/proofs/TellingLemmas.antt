@@ -1,13 +1,14 @@
 -- Lines that are told, and how many of them are findings.
 use Rattle.std.proofs.Common.{◌≡◌, ◌+◌, ◌<◌, ◌++◌, ◌∙◌, ℕ, Bool, List, [], ◌∷◌, Option, ap, append-nil, append_assoc}
-use Rattle.std.proofs.Common.{arith, drop, get_or, length, min, refl, subst, sym, take}
-use Rattle.std.proofs.lemmas.List.{take-append-drop, take_more}
+use Rattle.std.proofs.Common.{arith, drop, get_or, length, map, min, refl, subst, sym, take}
+use Rattle.std.proofs.lemmas.List.{get_or-map, length-map, take-append-drop, take_more}
 use Rattle.std.proofs.KnownBytes.{Appends-trans}
 use Rattle.std.specs.Io.KnownBytes.{Appends}
 use Rattle.afdx_input_lines.specs.Calls.{AppendsFront}
 use Rattle.afdx_text.proofs.OutputLemmas.{front-longer, front-more}
 use Rattle.afdx_text.specs.ConformLines.{conform_text}
 use Rattle.afdx_text.specs.declared.conform_line.ConformLine.{ConformLine}
+use Rattle.afdx_command_conform.specs.Lines.{Due}
 use Rattle.afdx_command_conform.specs.Telling.{findings_in, is_finding, lines_text, most_counted, one_if}
 
 -- ---- their text
@@ -56,6 +57,25 @@ begun-next a b c xs i d within before here =
     ∙ sym (text-append (take (i + 1) xs) (drop (i + 1) xs)) ∙ ap lines_text (take-append-drop (i + 1) xs))
     (front-longer a c (lines_text (take i xs) ++ conform_text (get_or xs i d)) (lines_text (drop (i + 1) xs))
     (front-more a b c (lines_text (take i xs)) (conform_text (get_or xs i d)) before here))
+
+-- of what is due
+module _ (a b c : Option (List ℕ)) (xs : List Due) (i : ℕ) (d : Due) (within : i < length xs)
+    (before : Appends a b (lines_text (take i (map (λ (x : Due). x.line) xs)))) where
+  due-within : i < length (map (λ (x : Due). x.line) xs)
+  due-within = let n = length-map xs (λ (x : Due). x.line) in omega (arith, n, within)
+
+  due-at : conform_text (get_or (map (λ (x : Due). x.line) xs) i d.line) ≡ conform_text (get_or xs i d).line
+  due-at = ap conform_text (get_or-map (λ (x : Due). x.line) xs i d d.line within)
+
+  pub told-due : Appends b c (conform_text (get_or xs i d).line)
+      → Appends a c (lines_text (take (i + 1) (map (λ (x : Due). x.line) xs)))
+  told-due here = told-next a b c (map (λ (x : Due). x.line) xs) i d.line due-within before
+      (subst (λ (l : List ℕ). Appends b c l) (sym due-at) here)
+
+  pub begun-due : AppendsFront b c (conform_text (get_or xs i d).line)
+      → AppendsFront a c (lines_text (map (λ (x : Due). x.line) xs))
+  begun-due here = begun-next a b c (map (λ (x : Due). x.line) xs) i d.line due-within before
+      (subst (λ (l : List ℕ). AppendsFront b c l) (sym due-at) here)
 
 -- ---- how many are findings
 

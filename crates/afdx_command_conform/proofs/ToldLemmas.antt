@@ -1,20 +1,19 @@
 -- What a run has told, step by step.
-use Rattle.std.proofs.Common.{Bor, ◌≡◌, ◌+◌, ◌++◌, ◌∷◌, ◌∙◌, [], ℕ, Bool, List, Option, ap, arith, min, refl, subst, sym}
+use Rattle.std.proofs.Common.{Bor, ◌≡◌, ◌+◌, ◌++◌, ◌∷◌, ◌∙◌, [], ℕ, Bool, List, ap, arith, min, refl, subst, sym}
 use Rattle.std.proofs.Common.{true, false}
 use Rattle.std.specs.Prelude.{Err, Ok, OnOk, Result}
-use Rattle.std.proofs.KnownBytes.{Appends-nil, Appends-trans}
-use Rattle.std.specs.Io.KnownBytes.{Appends}
 use Rattle.afdx_config.specs.Rows.{Rows}
 use Rattle.afdx_input_runs.specs.Joining.{Frame}
 use Rattle.afdx_text.specs.declared.conform_line.ConformLine.{ConformLine}
-use Rattle.afdx_command_conform.proofs.TellingLemmas.{findings-append, no-findings, no-text, text-append}
+use Rattle.afdx_command_conform.proofs.TellingLemmas.{findings-append, no-findings}
 use Rattle.afdx_command_conform.specs.Tapped.{taps_in}
 use Rattle.afdx_command_conform.specs.Choices.{Choices, is_in_time, is_missed, is_passed, left_out_of}
 use Rattle.afdx_command_conform.specs.ChoicesOf.{choices_of}
 use Rattle.afdx_command_conform.specs.Judging.{IsSameButTaken}
-use Rattle.afdx_command_conform.specs.Telling.{findings_in, lines_text, most_counted, one_if}
+use Rattle.afdx_command_conform.specs.Lines.{Due, lines_of}
+use Rattle.afdx_command_conform.specs.Telling.{findings_in, most_counted, one_if}
 use Rattle.afdx_command_conform.specs.Standing.{IsSameButKept}
-use Rattle.afdx_command_conform.specs.Told.{TellsOf}
+use Rattle.afdx_command_conform.specs.Told.{WorksBy}
 use Rattle.afdx_command_conform.specs.declared.judging.JudgingRun.{JudgingRun}
 use Rattle.afdx_input_sources.specs.declared.taps.Taps.{Taps}
 use Rattle.afdx_command_conform.specs.declared.streams.Streams.{Streams}
@@ -26,7 +25,7 @@ told-rules same rules = record {
   taps = ap (λ (s : Streams). s.taps) same ∙ rules.taps;
 }
 
-module _ (r : Rows × Choices) (start : Option (List ℕ)) (frames : List Frame) (j k : JudgingRun) where
+module _ (r : Rows × Choices) (frames : List Frame) (j k : JudgingRun) where
   chosen-same : k.streams.taps ≡ j.streams.taps → k.choices ≡ j.choices
       → choices_of (taps_in j.streams.taps.now) j.choices.now ≡ r.1
       → choices_of (taps_in k.streams.taps.now) k.choices.now ≡ r.1
@@ -35,32 +34,30 @@ module _ (r : Rows × Choices) (start : Option (List ℕ)) (frames : List Frame)
       ∙ ap (λ b. choices_of (taps_in j.streams.taps.now) b.now) choices ∙ is
 
   -- what else changes doesn't matter
-  pub tells-same : (output : Option (List ℕ)) (lines : List ConformLine) → IsSameButKept j.streams k.streams
+  pub works-same : (dues : List Due) → IsSameButKept j.streams k.streams
       → k.choices ≡ j.choices
       → k.findings ≡ j.findings → k.left_out ≡ j.left_out → k.latest ≡ j.latest
-      → TellsOf r frames j start output lines → TellsOf r frames k start output lines
-  tells-same output lines rules choices findings left_out latest h = record {
+      → WorksBy r frames j dues → WorksBy r frames k dues
+  works-same dues rules choices findings left_out latest h = record {
     tables_are = ap (λ (b : Bor Rows). b.now) rules.tables ∙ h.tables_are;
     choices_are = chosen-same rules.taps choices h.choices_are;
-    written = h.written;
     findings_are = findings ∙ h.findings_are;
     left_out_are = left_out ∙ h.left_out_are;
     latest_is = latest ∙ h.latest_is;
   }
 
   -- more lines are told
-  pub tells-more : (mid new : Option (List ℕ)) (lines more : List ConformLine) → IsSameButKept j.streams k.streams
+  pub works-more : (old new : List Due) (more : List ConformLine) → IsSameButKept j.streams k.streams
       → k.choices ≡ j.choices
       → k.left_out ≡ j.left_out → k.latest ≡ j.latest
-      → k.findings ≡ min (j.findings + findings_in more) most_counted → Appends mid new (lines_text more)
-      → TellsOf r frames j start mid lines → TellsOf r frames k start new (lines ++ more)
-  tells-more mid new lines more rules choices left_out latest counted told h = record {
+      → k.findings ≡ min (j.findings + findings_in more) most_counted
+      → lines_of new ≡ lines_of old ++ more
+      → WorksBy r frames j old → WorksBy r frames k new
+  works-more old new more rules choices left_out latest counted told h = record {
     tables_are = ap (λ (b : Bor Rows). b.now) rules.tables ∙ h.tables_are;
     choices_are = chosen-same rules.taps choices h.choices_are;
-    written = subst (λ (l : List ℕ). Appends start new l) (sym (text-append lines more))
-        (Appends-trans start mid new (lines_text lines) (lines_text more) h.written told);
     findings_are =
-        let all = findings-append lines more in
+        let all = ap findings_in told ∙ findings-append (lines_of old) more in
         let before = h.findings_are in
         omega (arith, all, before, counted);
     left_out_are = left_out ∙ h.left_out_are;
@@ -101,16 +98,16 @@ unfolding is_missed
 missed-in t c x is e f = rw e f
 
 -- one more frame is taken: `l` is what then works, at its time
-pub tells-next : (r : Rows × Choices) (start : Option (List ℕ)) (frames : List Frame) (j k l : JudgingRun)
-    (output : Option (List ℕ)) (lines : List ConformLine) (x : Frame) → IsSameButTaken j k
+pub works-next : (r : Rows × Choices) (frames : List Frame) (j k l : JudgingRun) (dues : List Due) (x : Frame)
+    → IsSameButTaken j k
     → l.streams ≡ k.streams
     → l.choices ≡ k.choices → l.findings ≡ k.findings → l.left_out ≡ k.left_out → l.latest ≡ x.arrival.time
     → (j.left_out ≡ min (left_out_of j.streams.tables.now (choices_of (taps_in j.streams.taps.now) j.choices.now)
     frames) most_counted
     → k.left_out ≡ min (left_out_of j.streams.tables.now (choices_of (taps_in j.streams.taps.now) j.choices.now)
     (x ∷ frames)) most_counted)
-    → TellsOf r frames j start output lines → TellsOf r (x ∷ frames) l start output lines
-tells-next r start frames j k l output lines x others streams choices findings left_out latest counted h =
+    → WorksBy r frames j dues → WorksBy r (x ∷ frames) l dues
+works-next r frames j k l dues x others streams choices findings left_out latest counted h =
     let by-r = subst (λ (o : Choices). j.left_out ≡ min (left_out_of r.0 o frames) most_counted
     → k.left_out ≡ min (left_out_of r.0 o (x ∷ frames)) most_counted) h.choices_are
     (subst (λ (t : Rows). j.left_out ≡ min (left_out_of t (choices_of (taps_in j.streams.taps.now) j.choices.now)
@@ -120,24 +117,21 @@ tells-next r start frames j k l output lines x others streams choices findings l
     record {
       tables_are = ap (λ (s : Streams). s.tables.now) streams ∙ ap (λ (b : Bor Rows). b.now) others.rules.tables
           ∙ h.tables_are;
-      choices_are = chosen-same r start frames j l (ap (λ (s : Streams). s.taps) streams ∙ others.rules.taps) (choices
+      choices_are = chosen-same r frames j l (ap (λ (s : Streams). s.taps) streams ∙ others.rules.taps) (choices
           ∙ others.choices)
           h.choices_are;
-      written = h.written;
       findings_are = findings ∙ others.findings ∙ h.findings_are;
       left_out_are = left_out ∙ by-r h.left_out_are;
       latest_is = latest;
     }
 
 -- nothing is told
-pub tells-none : (r : Rows × Choices) (judging : JudgingRun) (output : Option (List ℕ)) → judging.streams.tables.now ≡
-    r.0
+pub works-none : (r : Rows × Choices) (judging : JudgingRun) → judging.streams.tables.now ≡ r.0
     → choices_of (taps_in judging.streams.taps.now) judging.choices.now ≡ r.1
-    → judging.findings ≡ 0 → judging.left_out ≡ 0 → judging.latest ≡ 0 → TellsOf r [] judging output output []
-tells-none r judging output tables choices none some at = record {
+    → judging.findings ≡ 0 → judging.left_out ≡ 0 → judging.latest ≡ 0 → WorksBy r [] judging []
+works-none r judging tables choices none some at = record {
   tables_are = tables;
   choices_are = choices;
-  written = subst (λ (l : List ℕ). Appends output output l) (sym no-text) (Appends-nil output);
   findings_are = none ∙ subst (λ (n : ℕ). 0 ≡ min n most_counted) (sym no-findings) refl;
   left_out_are = some;
   latest_is = at;

@@ -4,11 +4,9 @@ use Rattle.std.specs.Prelude.{ℕ, ◌≡◌, ◌<◌, ◌≤◌, nat_lt, List, 
 use Rattle.std.specs.List.{AllByRecursion}
 use Rattle.afdx_config.specs.Rows.{Rows}
 use Rattle.afdx_input_runs.specs.Joining.{Frame}
-use Rattle.afdx_input_lines.specs.Calls.{AppendsFront}
 use Rattle.afdx_text.specs.declared.conform_line.ConformLine.{ConformLine}
 use Rattle.afdx_command_conform.specs.Choices.{Choices}
 use Rattle.afdx_command_conform.specs.Lines.{AreInOrder, Due, dues_of, last_rank, lines_of, of_key, rank}
-use Rattle.afdx_command_conform.specs.Telling.{lines_text}
 use Rattle.afdx_command_conform.specs.declared.key.Key.{Key}
 
 -- of all these lines of a key the last are those; each other one comes at this rank or later
@@ -44,23 +42,25 @@ IsEndFrom (Some until) time end = end ≡ until
 -- whatever frames come from this time on, and whenever the recordings end, of all lines of these
 -- frames and of those these are so
 abbrev pub WhateverComes : (so : (until : ℕ) → List Frame → List Due → Type 0) → Rows × Choices →
-    (time : ℕ) → List Frame → List ConformLine → Type 0
-WhateverComes so k time frames lines = (until : ℕ) (more : List Frame)
-    → IsEndFrom k.1.until time until → ComeFrom time more
-    → (dues : List Due) × (lines ≡ lines_of dues) × so until (more ++ frames) dues
+    (time : ℕ) → List Frame → List Due → Type 0
+WhateverComes so k time frames dues = (until : ℕ) (more : List Frame)
+    → IsEndFrom k.1.until time until → ComeFrom time more → so until (more ++ frames) dues
 
 -- they are those of moments before the time
-abbrev pub AreEarly : Rows × Choices → (time : ℕ) → List Frame → List ConformLine → Type 0
-AreEarly k time frames lines = WhateverComes
-    (λ until all dues. AreLinesBefore k.0 k.1 until all time dues) k time frames lines
+abbrev pub AreDueEarly : Rows × Choices → (time : ℕ) → List Frame → List Due → Type 0
+AreDueEarly k time frames dues = WhateverComes
+    (λ until all early. AreLinesBefore k.0 k.1 until all time early) k time frames dues
 
 -- they are the first
-abbrev pub AreBegun : Rows × Choices → (time : ℕ) → List Frame → List ConformLine → Type 0
-AreBegun k time frames lines = WhateverComes
-    (λ until all dues. AreFirstLines k.0 k.1 until all dues) k time frames lines
+abbrev pub AreDueFirst : Rows × Choices → (time : ℕ) → List Frame → List Due → Type 0
+AreDueFirst k time frames dues = WhateverComes
+    (λ until all first. AreFirstLines k.0 k.1 until all first) k time frames dues
 
--- a beginning of such lines is written
-abbrev pub BeginsFrom : Rows × Choices → (time : ℕ) → (old new : Option (List ℕ)) → List Frame →
-    Type 0
-BeginsFrom k time old new frames = (lines : List ConformLine)
-    × AppendsFront old new (lines_text lines) × AreBegun k time frames lines
+-- these are what they say
+abbrev pub AreEarly : Rows × Choices → (time : ℕ) → List Frame → List ConformLine → Type 0
+AreEarly k time frames lines =
+    (dues : List Due) × (lines ≡ lines_of dues) × AreDueEarly k time frames dues
+
+abbrev pub AreBegun : Rows × Choices → (time : ℕ) → List Frame → List ConformLine → Type 0
+AreBegun k time frames lines =
+    (dues : List Due) × (lines ≡ lines_of dues) × AreDueFirst k time frames dues

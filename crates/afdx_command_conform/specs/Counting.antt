@@ -124,7 +124,13 @@ totals_with findings left_out unseen is_exercised n = record {
   is_exercised = is_exercised;
 }
 
--- of all these frames, of which these are all lines
+-- of all these frames, of which these are all lines, and of so many findings more
+abbrev pub totals_and : ℕ → Rows × Choices → List Frame → List Due → Totals
+totals_and more k frames lines = totals_with (findings_in (lines_of lines) + more)
+    (left_out_of k.0 k.1 frames) (unseen_of k.0 k.1.taps) k.1.exercised
+    (counted_of k.0 k.1 (until_or k.1.until frames) frames)
+
+-- of these alone
 abbrev pub totals_of : Rows × Choices → List Frame → List Due → Totals
 totals_of k frames lines = totals_with (findings_in (lines_of lines)) (left_out_of k.0 k.1 frames)
     (unseen_of k.0 k.1.taps) k.1.exercised

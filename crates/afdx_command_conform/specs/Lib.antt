@@ -25,3 +25,4 @@ pub mod RunLaws
 pub mod VerdictLaws
 pub mod EarlyLaw
 pub mod RunExample
+pub mod QuietRuns

@@ -24,12 +24,11 @@ use Rattle.afdx_command_conform.specs.Frames.{arrivals_of, frames_of, strangers_
 use Rattle.afdx_command_conform.specs.Keys.{is_key, key_rank}
 use Rattle.afdx_command_conform.specs.Tapped.{judged_to}
 use Rattle.afdx_command_conform.specs.declared.key.Key.{Key}
+use Rattle.afdx_command_conform.specs.declared.due.DueLine.{DueLine}
 
 -- a line, the moment at which it is due, in ns, and whose it is
-pub record Due : Type 0 where
-  pub moment : ℕ
-  pub key : Key
-  pub line : ConformLine
+abbrev pub Due : Type 0
+Due = DueLine
 
 abbrev pub due_at : Key → ℕ → ConformLine → Due
 due_at key moment line = record { moment = moment; key = key; line = line }

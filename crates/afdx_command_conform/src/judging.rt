@@ -1,21 +1,22 @@
 //! The machine of a run: each frame goes to its streams, and what is found there is told at its
 //! moment.
 
-ghost use Rattle.std.specs.Prelude.{◌≡◌, ◌<◌, ◌≤◌, ◌+◌, ◌∷◌, [], ℕ, Bool, List, Option, IfOk, IfSome, OnErr};
-ghost use Rattle.std.specs.Prelude.{OnOk, None, Some, false, is_some, length, min, true};
-ghost use Rattle.std.specs.Io.KnownBytes.{Appends};
+ghost use Rattle.std.specs.Prelude.{◌≡◌, ◌<◌, ◌≤◌, ◌+◌, ◌++◌, ◌∷◌, [], ℕ, Bool, List, IfOk, IfSome};
+ghost use Rattle.std.specs.Prelude.{OnOk, None, false, is_some, length, map, min, true};
 ghost use Rattle.afdx_command_conform.specs.Choices.{Choices as Chosen, latest_of, left_out_of};
 ghost use Rattle.afdx_command_conform.specs.Choices as asked;
 ghost use Rattle.afdx_command_conform.specs.ChoicesOf.{choices_of};
 ghost use Rattle.afdx_command_conform.specs.Judging.{IsSameButFindings, IsSameButTaken};
 ghost use Rattle.afdx_command_conform.specs.Tapped.{place_named, taps_in};
 ghost use Rattle.afdx_command_conform.specs.Telling as spec;
-ghost use Rattle.afdx_command_conform.specs.Beginning.{BeginsFrom};
+ghost use Rattle.afdx_command_conform.specs.Told.{ClosesAt, Finishes, Follows, GoesOn, HasTold};
+ghost use Rattle.afdx_command_conform.specs.Told.{IsEndFor, IsJudgedSoFar, IsJudgedToEnd, Reaches};
+ghost use Rattle.afdx_command_conform.specs.Told.{TakesNext, told_by};
+ghost use Rattle.afdx_command_conform.specs.Counting.{totals_and};
 ghost use Rattle.afdx_command_conform.specs.Holding.{HoldsOneWindow};
-ghost use Rattle.afdx_command_conform.specs.Told.{ClosesAt, GoesOn, HasBegun, IsEndFor, TakesNext};
-ghost use Rattle.afdx_command_conform.specs.Told.{TellsAll, TellsItems, TellsToEnd};
-ghost use Rattle.afdx_command_conform.specs.AllLines.{BeginsAll};
 ghost use Rattle.afdx_command_conform.specs.Keeping.{IsNothingDue};
+ghost use Rattle.afdx_command_conform.specs.Lines.{Due, due_at};
+ghost use Rattle.afdx_command_conform.specs.Totals.{concluded};
 ghost use Rattle.afdx_config.specs.Rows.{Rows};
 ghost use Rattle.afdx_input_sources.specs.Engine.{Item, item_of};
 ghost use Rattle.afdx_frame.specs.Layout.{link_named_by};
@@ -24,14 +25,14 @@ ghost use Rattle.afdx_frame.specs.Seals.{IsSealedAs};
 ghost use Rattle.afdx_frame.specs.Times.{latest_listed};
 ghost use Rattle.afdx_input_runs.specs.Joining.{Frame, frame_of, frames_of};
 ghost use Rattle.afdx_input_runs.specs.declared.seen.Seen.{Seen as Passed};
-ghost use Rattle.afdx_input_lines.specs.Calls.{AppendsFront};
-ghost use Rattle.afdx_text.specs.Sinks.{SinkKept};
 
 use crate::asked::{is_in_time, is_left_out};
 use crate::choices::Choices;
+use crate::due::{DueLine, add_lines, put_due};
 use crate::judge::Judge;
+use crate::kept::Lines;
 use crate::streams::Streams;
-use crate::telling::{findings_in, put_lines};
+use crate::telling::findings_in;
 use crate::totals::Totals;
 use crate::whole::vl_named;
 use afdx_config::Tables;
@@ -47,8 +48,10 @@ const MOST_BYTES: u64 = 65_535;
 
 /// What a run works with: what is asked for, the streams, the time of the last line in ns, and how
 /// many findings were told and lines left out.
+///
+/// What is to be told is added to a list of what is due, the oldest first.
 #[derive(Drop)]
-pub(crate) struct JudgingRun<'a> {
+pub struct JudgingRun<'a> {
     alloc: Global,
     choices: &'a Choices,
     streams: Streams<'a>,
@@ -58,16 +61,17 @@ pub(crate) struct JudgingRun<'a> {
 }
 
 impl<'a> JudgingRun<'a> {
-    /// It has told nothing yet.
-    pub(crate) fn new(
+    /// By these tables and choices, of the ports that were recorded. Nothing came yet. Fails only
+    /// out of memory.
+    pub fn new(
         alloc: Global,
         tables: &'a Tables,
         choices: &'a Choices,
         taps: &'a Taps,
     ) -> Result<JudgingRun<'a>, AllocError>
-        ensures { (output : Option (List ℕ)) → IfOk result (λ judging.
-            TellsItems (tables.entry.now, choices_of (taps_in taps.entry.now) choices.entry.now)
-            judging output output []) }
+        ensures { IfOk result (λ judging. IsJudgedSoFar
+            (tables.entry.now, choices_of (taps_in taps.entry.now) choices.entry.now)
+            judging [] []) }
     {
         let streams = Streams::new(alloc, tables, choices.leeway, taps)?;
         Ok(JudgingRun {
@@ -80,76 +84,52 @@ impl<'a> JudgingRun<'a> {
         })
     }
 
-    /// Tells some lines, and counts those that are findings.
-    fn tell_lines<O: Sink>(&mut self, lines: &[ConformLine], output: &mut O) -> Result<(), RunFault>
-        requires sound { O.failed output.old ≡ false }
-        ensures sink { SinkKept O.failed O.settings output.old output.new result }
+    /// Some lines are due, and those that are findings are counted.
+    fn add(&mut self, lines: &Lines, due: &mut Vec<DueLine>) -> Result<(), AllocError>
         ensures others { IsSameButFindings self.old self.new }
         ensures counted { OnOk result (self.new.findings
-            ≡ min (self.old.findings + spec.findings_in lines.now) spec.most_counted) }
-        ensures told { OnOk result (Appends (O.written output.old) (O.written output.new)
-            (spec.lines_text lines.now)) }
-        ensures begun { OnErr result (AppendsFront (O.written output.old) (O.written output.new)
-            (spec.lines_text lines.now)) }
+            ≡ min (self.old.findings + spec.findings_in lines.now.lines.items)
+            spec.most_counted) }
+        ensures added { OnOk result (due.new.items
+            ≡ due.old.items ++ map (due_at lines.now.key lines.now.moment) lines.now.lines.items) }
     {
-        put_lines(lines, output)?;
-        self.findings = self.findings.saturating_add(findings_in(lines));
+        let found = lines.lines.as_slice();
+        add_lines(lines.moment, lines.key, found, due)?;
+        self.findings = self.findings.saturating_add(findings_in(found));
         Ok(())
     }
 
-    /// Tells what is to be told before this time, in ns; without a time all that is.
-    fn tell_due<O: Sink>(&mut self, before: Option<u64>, output: &mut O) -> Result<(), RunFault>
-        requires sound { O.failed output.old ≡ false }
-        ensures sink { SinkKept O.failed O.settings output.old output.new result }
-        ensures begun { (k : Rows × Chosen) (last : Bool) (time to : ℕ)
-            (start : Option (List ℕ)) (frames : List Frame) →
-            GoesOn k last time to before self.old.streams.ended frames →
-            TellsAll k last time self.old start (O.written output.old) frames →
-            OnErr result (HasBegun k last to self.old.streams.ended start (O.written output.new)
-            frames) }
-        ensures stands { (k : Rows × Chosen) (last : Bool) (time to : ℕ)
-            (start : Option (List ℕ)) (frames : List Frame) →
-            GoesOn k last time to before self.old.streams.ended frames →
-            TellsAll k last time self.old start (O.written output.old) frames →
-            OnOk result (TellsAll k last to self.new start (O.written output.new) frames
+    /// Adds what is to be told before this time, in ns; without a time all that is.
+    fn collect(&mut self, before: Option<u64>, due: &mut Vec<DueLine>) -> Result<(), AllocError>
+        ensures stands { (k : Rows × Chosen) (last : Bool) (time to : ℕ) (frames : List Frame)
+            (dues : List Due) → GoesOn k last time to before self.old.streams.ended frames →
+            HasTold k last time self.old frames (told_by due.old.items dues) →
+            OnOk result (HasTold k last to self.new frames (told_by due.new.items dues)
             × IsNothingDue k.0 before self.new.streams.kept) }
         ensures ended { self.new.streams.ended ≡ self.old.streams.ended }
     {
         while let Some(lines) = self.streams.take_before(before)? {
-            self.tell_lines(lines.lines.as_slice(), output)?;
+            self.add(&lines, due)?;
         }
         Ok(())
     }
 
     /// The recordings end at this time, in ns, before which all is told.
-    fn close<O: Sink>(&mut self, until: u64, output: &mut O) -> Result<(), RunFault>
-        requires sound { O.failed output.old ≡ false }
-        ensures sink { SinkKept O.failed O.settings output.old output.new result }
-        ensures begun { (k : Rows × Chosen) (time : ℕ) (start : Option (List ℕ))
-            (frames : List Frame) → time ≤ until →
-            ((end : ℕ) → k.1.until ≡ Some end → until ≤ end) → self.old.streams.ended ≡ None →
-            TellsAll k false time self.old start (O.written output.old) frames →
-            OnErr result (HasBegun k false until None start (O.written output.new) frames) }
-        ensures stands { ClosesAt (λ done. OnOk result done) until self.old self.new
-            (O.written output.old) (O.written output.new) }
+    fn close(&mut self, until: u64, due: &mut Vec<DueLine>) -> Result<(), AllocError>
+        ensures { ClosesAt (λ done. OnOk result done) until self.old self.new
+            due.old.items due.new.items }
     {
-        self.tell_due(Some(until), output)?;
+        self.collect(Some(until), due)?;
         self.streams.end(until);
         Ok(())
     }
 
     /// The recordings end before a line of this time, in ns, if they do and didn't before.
-    fn close_before<O: Sink>(&mut self, time: u64, output: &mut O) -> Result<(), RunFault>
-        requires sound { O.failed output.old ≡ false }
-        ensures sink { SinkKept O.failed O.settings output.old output.new result }
-        ensures begun { (k : Rows × Chosen) (before : ℕ) (start : Option (List ℕ))
-            (frames : List Frame) → before ≤ time → latest_of frames ≤ before →
-            TellsAll k false before self.old start (O.written output.old) frames →
-            OnErr result (BeginsFrom k time start (O.written output.new) frames) }
-        ensures stands { (k : Rows × Chosen) (before : ℕ) (start : Option (List ℕ))
-            (frames : List Frame) → before ≤ time → latest_of frames ≤ before →
-            TellsAll k false before self.old start (O.written output.old) frames →
-            OnOk result (TellsAll k false time self.new start (O.written output.new) frames) }
+    fn close_before(&mut self, time: u64, due: &mut Vec<DueLine>) -> Result<(), AllocError>
+        ensures { (k : Rows × Chosen) (before : ℕ) (frames : List Frame)
+            (dues : List Due) → before ≤ time → latest_of frames ≤ before →
+            HasTold k false before self.old frames (told_by due.old.items dues) →
+            OnOk result (HasTold k false time self.new frames (told_by due.new.items dues)) }
     {
         if self.streams.is_ended() {
             return Ok(());
@@ -158,56 +138,52 @@ impl<'a> JudgingRun<'a> {
             return Ok(());
         };
         if until < time {
-            self.close(until, output)
+            self.close(until, due)
         } else {
             Ok(())
         }
     }
 
     /// The recordings end after the last line, if they didn't before.
-    fn close_at_end<O: Sink>(&mut self, output: &mut O) -> Result<(), RunFault>
-        requires sound { O.failed output.old ≡ false }
-        ensures sink { SinkKept O.failed O.settings output.old output.new result }
-        ensures begun { (k : Rows × Chosen) (start : Option (List ℕ)) (frames : List Frame) →
-            TellsAll k false (latest_of frames) self.old start (O.written output.old) frames →
-            OnErr result (BeginsAll k frames start (O.written output.new)) }
-        ensures stands { (k : Rows × Chosen) (start : Option (List ℕ)) (frames : List Frame) →
-            TellsAll k false (latest_of frames) self.old start (O.written output.old) frames →
+    fn close_at_end(&mut self, due: &mut Vec<DueLine>) -> Result<(), AllocError>
+        ensures { (k : Rows × Chosen) (frames : List Frame) (dues : List Due) →
+            HasTold k false (latest_of frames) self.old frames (told_by due.old.items dues) →
             OnOk result ((time : ℕ)
-            × TellsAll k true time self.new start (O.written output.new) frames
+            × HasTold k true time self.new frames (told_by due.new.items dues)
             × (is_some self.new.streams.ended ≡ true)) }
     {
         if self.streams.is_ended() {
             return Ok(());
         }
         match self.choices.until {
-            Some(until) => self.close(until, output),
-            None => self.close(self.latest, output),
+            Some(until) => self.close(until, due),
+            None => self.close(self.latest, due),
         }
     }
 
-    /// Tells what is to be told before a line of this time, in ns. Then at most twice as much is
-    /// held of each stream as came and left in the last window, while the recordings go on.
-    fn reach<O: Sink>(&mut self, time: u64, output: &mut O) -> Result<(), RunFault>
-        requires sound { O.failed output.old ≡ false }
-        ensures sink { SinkKept O.failed O.settings output.old output.new result }
-        ensures begun { (k : Rows × Chosen) (before : ℕ) (start : Option (List ℕ))
-            (frames : List Frame) → before ≤ time → latest_of frames ≤ before →
-            TellsAll k false before self.old start (O.written output.old) frames →
-            OnErr result (BeginsFrom k time start (O.written output.new) frames) }
-        ensures stands { (k : Rows × Chosen) (before : ℕ) (start : Option (List ℕ))
-            (frames : List Frame) → before ≤ time → latest_of frames ≤ before →
-            TellsAll k false before self.old start (O.written output.old) frames →
-            OnOk result (TellsAll k false time self.new start (O.written output.new) frames
-            × IsNothingDue k.0 (Some time) self.new.streams.kept) }
-        ensures held { (k : Rows × Chosen) (before until : ℕ) (start : Option (List ℕ))
-            (frames : List Frame) → before ≤ time → latest_of frames ≤ before →
+    /// Adds what is to be told before a line of this time, in ns, which isn't earlier than those
+    /// before it. Then at most twice as much is held of each stream as came and left in the last
+    /// window, while the recordings go on. Fails only out of memory.
+    pub fn reach(&mut self, time: u64, due: &mut Vec<DueLine>) -> Result<(), AllocError>
+        ensures stands { Reaches (λ done. OnOk result done) time self.old self.new
+            due.old.items due.new.items }
+        ensures held { (k : Rows × Chosen) (before until : ℕ) (frames : List Frame)
+            (dues : List Due) → before ≤ time → latest_of frames ≤ before →
             self.new.streams.ended ≡ None → IsEndFor k.1.until frames until →
-            TellsAll k false before self.old start (O.written output.old) frames →
+            HasTold k false before self.old frames (told_by due.old.items dues) →
             OnOk result (HoldsOneWindow k.0 k.1 until frames time self.new.streams.kept) }
     {
-        self.close_before(time, output)?;
-        self.tell_due(Some(time), output)
+        self.close_before(time, due)?;
+        self.collect(Some(time), due)
+    }
+
+    /// Adds all that is still to be told, no more lines coming. Fails only out of memory.
+    pub fn finish(&mut self, due: &mut Vec<DueLine>) -> Result<(), AllocError>
+        ensures { Finishes (λ done. OnOk result done) self.old self.new
+            due.old.items due.new.items }
+    {
+        self.close_at_end(due)?;
+        self.collect(None, due)
     }
 
     /// Whether a line that names this link, at that place of the tables, is passed over: the link
@@ -233,7 +209,7 @@ impl<'a> JudgingRun<'a> {
             || self.streams.is_unheard(seen.role, side, port, named, frame)
     }
 
-    /// Takes a line: it is passed over, or goes to its streams.
+    /// A line is passed over, or goes to its streams.
     fn take(&mut self, n: u64, seen: &Seen, message: &[u8]) -> Result<(), AllocError>
         requires time { seen.now.heading.time ≤ latest_listed }
         requires known { IsSealedAs seen.now.heading.seal message.now }
@@ -266,6 +242,32 @@ impl<'a> JudgingRun<'a> {
             Role::Left => self.streams.left(named, n, &seen.heading, frame),
         }
     }
+
+    /// Takes a line, whose time was reached. Fails only out of memory.
+    pub fn follow(&mut self, n: u64, seen: &Seen, message: &[u8]) -> Result<(), AllocError>
+        requires time { seen.now.heading.time ≤ latest_listed }
+        requires known { IsSealedAs seen.now.heading.seal message.now }
+        ensures { Follows (λ done. OnOk result done) self.old self.new seen.now.heading.time
+            (frame_of (item_of n seen.now message.now)) }
+    {
+        self.take(n, seen, message)?;
+        self.latest = seen.heading.time;
+        Ok(())
+    }
+
+    /// The answer with what was counted, all being told, where there are so many findings more.
+    pub fn conclusion_with(&self, more: u64) -> Conclusion
+        ensures { (k : Rows × Chosen) (frames : List Frame) (dues : List Due) →
+            IsJudgedToEnd k self.now frames dues →
+            result ≡ concluded (totals_and more k frames dues) }
+    {
+        let findings = self.findings.saturating_add(more);
+        let unseen = self.streams.unseen();
+        let exercised = self.choices.is_exercised;
+        let mut totals = Totals::new(findings, self.left_out, unseen, exercised);
+        self.streams.count(&mut totals);
+        totals.conclusion()
+    }
 }
 
 impl Machine<Seen> for JudgingRun<'_> {
@@ -294,15 +296,17 @@ impl Machine<Seen> for JudgingRun<'_> {
         message: &[u8],
         output: &mut O,
     ) -> Result<(), RunFault> {
-        self.reach(seen.heading.time, output)?;
-        self.take(n, seen, message)?;
-        self.latest = seen.heading.time;
+        let mut due = Vec::new(self.alloc);
+        self.reach(seen.heading.time, &mut due)?;
+        put_due(due.as_slice(), output)?;
+        self.follow(n, seen, message)?;
         Ok(())
     }
 
     fn end<O: Sink>(&mut self, output: &mut O) -> Result<(), RunFault> {
-        self.close_at_end(output)?;
-        self.tell_due(None, output)
+        let mut due = Vec::new(self.alloc);
+        self.finish(&mut due)?;
+        put_due(due.as_slice(), output)
     }
 }
 
@@ -312,10 +316,6 @@ impl Judge for JudgingRun<'_> {
     ghost HasCounted = { CountsAll };
 
     fn conclusion(&self) -> Conclusion {
-        let unseen = self.streams.unseen();
-        let exercised = self.choices.is_exercised;
-        let mut totals = Totals::new(self.findings, self.left_out, unseen, exercised);
-        self.streams.count(&mut totals);
-        totals.conclusion()
+        self.conclusion_with(0)
     }
 }

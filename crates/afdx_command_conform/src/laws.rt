@@ -1,6 +1,8 @@
 //! Laws over the lines of a run.
 
 ghost use Rattle.afdx_command_conform.specs.EarlyLaw.{LinesBeginEarly};
+ghost use Rattle.afdx_command_conform.specs.QuietRuns.{LastLineIsQuiet, NoneLeftOutCounts};
+ghost use Rattle.afdx_command_conform.specs.QuietRuns.{NoneUnseenIsJudged, NothingFoundIsQuiet};
 ghost use Rattle.afdx_command_conform.specs.RunExample.{PremisesAreMet};
 ghost use Rattle.afdx_command_conform.specs.RunLaws.{ConformsIsTheHeadline, NoLineIsExplained};
 ghost use Rattle.afdx_command_conform.specs.RunLaws.{NothingFoundIsExplained, RightConforms};
@@ -52,6 +54,21 @@ pub fn conforms_is_the_headline()
 pub fn right_conforms()
     ensures found { RightConforms }
     ensures answer { RightNeverDeviates }
+{}
+
+/// Where no line is a finding and nothing is open, nothing is found of any stream that is judged,
+/// and nothing of it is open. So it is where the last line doesn't say `deviates` and counts none
+/// open.
+pub fn nothing_found_is_quiet()
+    ensures found { NothingFoundIsQuiet }
+    ensures last { LastLineIsQuiet }
+{}
+
+/// Where the last line counts no stream unseen, each is judged; where it counts no line left out,
+/// all frames from start to end count.
+pub fn nothing_is_passed_over()
+    ensures streams { NoneUnseenIsJudged }
+    ensures frames { NoneLeftOutCounts }
 {}
 
 /// There is a run that meets all premises: a frame came and left in time, and there is no line; and

@@ -12,8 +12,8 @@ use crate::running::{Replaying, Run, run_inputs, run_sender};
 use crate::senders::judge_what_came;
 use afdx_command_tables::status::{DONE, WRONG_WORDS};
 use afdx_command_words::{
-    PoliceOptions, afdx_command, conform_inputs, inputs_in, police_options, replay_options,
-    send_words, wants_lists, wants_senders,
+    PoliceOptions, afdx_command, conform_inputs, inputs_in, names_left, police_options,
+    replay_options, send_words, wants_lists, wants_senders,
 };
 use afdx_explain::meaning_of;
 use afdx_replay::{CommandedRule, RunFault};
@@ -70,7 +70,8 @@ fn replay_list(rt: &HostRuntime, matches: &ArgMatches<'_>) -> u8 {
     ended(run_inputs(rt, matches, &run, inputs.list, inputs.second))
 }
 
-/// Judges a switch by what came and what left.
+/// Judges a switch by what came and what left, with the systems that send to it, or these alone by
+/// what came.
 fn judge_switch(rt: &HostRuntime, matches: &ArgMatches<'_>) -> u8 {
     let Some(inputs) = conform_inputs(matches) else {
         return WRONG_WORDS;
@@ -79,7 +80,7 @@ fn judge_switch(rt: &HostRuntime, matches: &ArgMatches<'_>) -> u8 {
         Ok(config) => config,
         Err(status) => return status,
     };
-    if wants_senders(matches) {
+    if wants_senders(matches) && inputs.left.is_none() && !names_left(matches) {
         return ended(judge_what_came(rt, matches, config.as_slice(), inputs.came));
     }
     ended(judge_inputs(rt, matches, config.as_slice(), inputs))

@@ -5,8 +5,9 @@ use crate::console::{
     Cause, Cleared, Count, Counted, InputDevice, Traced, WatchedWriter, error_lines,
     explain_if_asked, is_told, memory,
 };
+use crate::judging::{judge, what_is_judged};
 use crate::running::{cause_in, failed_of, open, output_room, refuse};
-use afdx_command_conform::{ByRole, Choices, Judged, Leeway, Question, conform};
+use afdx_command_conform::{ByRole, Choices, Judged, Leeway};
 use afdx_command_tables::status::DONE;
 use afdx_command_words::{
     BadPlace, ConformInputs, Refused, STANDARD_INPUT, conform_options, seen_options,
@@ -41,17 +42,12 @@ pub(crate) fn choices_in<'a>(
     choices.ok_or(Refused::BadNumber)
 }
 
-/// The same, if the inputs are two.
-fn choices_of_two<'a>(
-    alloc: Global,
-    matches: &ArgMatches<'a>,
-    words: &ByRole<&str>,
-) -> Result<Choices, Refused<'a>> {
-    let choices = choices_in(alloc, matches)?;
+/// Refuses that two inputs are one.
+fn are_two<'a>(words: &ByRole<&str>) -> Result<(), Refused<'a>> {
     if words.came == STANDARD_INPUT && words.left == STANDARD_INPUT {
         return Err(Refused::SameInput);
     }
-    Ok(choices)
+    Ok(())
 }
 
 /// What words say, or the status where they are refused.
@@ -122,6 +118,8 @@ fn judge_one(
 ) -> Result<u8, u8> {
     let options = taken(rt, matches, seen_options(rt.alloc(), matches))?;
     let choices = taken(rt, matches, choices_in(rt.alloc(), matches))?;
+    let switch = switch_in(matches);
+    let what = what_is_judged(rt, matches, config, switch, &choices)?;
     let device = Traced::new(rt.stdout());
     let Ok(mut output) = Output::new(rt.alloc(), output_room(rt, matches), device) else {
         return Err(memory(rt));
@@ -131,14 +129,8 @@ fn judge_one(
     let count = Count::new(rt, told);
     let mut input = Watched::new(Traced::new(Counted::new(&count, input)));
     let mut errors = Watched::new(WatchedWriter::new(Cleared::new(rt, told, error_lines(rt))));
-    let switch = switch_in(matches);
-    let question = Question {
-        config,
-        switch,
-        choices: &choices,
-    };
     let (ins, outs, faults) = (&mut input, &mut output, &mut errors);
-    let judged = conform(rt.alloc(), question, options, ins, outs, faults);
+    let judged = judge(rt.alloc(), what, options, ins, outs, faults);
     let read = cause_in(config, word, input.into_inner());
     Ok(end_judged(rt, matches, judged, read, output, errors))
 }
@@ -176,7 +168,10 @@ fn judge_two(
     inputs: ByRole<InputDevice>,
 ) -> Result<u8, u8> {
     let options = taken(rt, matches, seen_pair_options(rt.alloc(), matches))?;
-    let choices = taken(rt, matches, choices_of_two(rt.alloc(), matches, &words))?;
+    let choices = taken(rt, matches, choices_in(rt.alloc(), matches))?;
+    let switch = switch_in(matches);
+    let what = what_is_judged(rt, matches, config, switch, &choices)?;
+    taken(rt, matches, are_two(&words))?;
     let device = Traced::new(rt.stdout());
     let Ok(mut output) = Output::new(rt.alloc(), output_room(rt, matches), device) else {
         return Err(memory(rt));
@@ -190,20 +185,14 @@ fn judge_two(
         left: Watched::new(Peeked::new(Traced::new(Counted::new(&count, inputs.left)))),
     };
     let mut errors = Watched::new(WatchedWriter::new(Cleared::new(rt, told, error_lines(rt))));
-    let switch = switch_in(matches);
-    let question = Question {
-        config,
-        switch,
-        choices: &choices,
-    };
     let (ins, outs, faults) = (&mut inputs, &mut output, &mut errors);
     let judged = match options {
         None => match look_at_both(ins) {
-            Ok(()) => conform(rt.alloc(), question, AsLists, ins, outs, faults),
+            Ok(()) => judge(rt.alloc(), what, AsLists, ins, outs, faults),
             Err(NoList::Recording(role)) => return Err(refuse(rt, matches, unsaid(role))),
             Err(NoList::Fault(fault)) => ended_by(&fault, faults),
         },
-        Some(options) => conform(rt.alloc(), question, options, ins, outs, faults),
+        Some(options) => judge(rt.alloc(), what, options, ins, outs, faults),
     };
     let names = BySide {
         a: words.came,

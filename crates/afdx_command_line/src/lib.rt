@@ -6,6 +6,7 @@ mod commands;
 mod configs;
 mod conforming;
 mod console;
+mod judging;
 mod locating;
 mod running;
 mod senders;

@@ -7,25 +7,28 @@ use crate::console::{
 };
 use crate::running::{cause_in, open, output_room, refuse};
 use afdx_command_conform::{ByRole, Choices};
-use afdx_command_senders::{SenderChoices, SenderQuestion, judge_senders};
+use afdx_command_senders::{Beside, SenderChoices, SenderQuestion, judge_senders};
 use afdx_command_words::{Refused, came_options, copies_apart, switch_in};
 use afdx_input_runs::AsLists;
 use afdx_input_sources::RecordingOptions;
 use afdx_replay::{Output, Peeked, Watched};
 use clap::ArgMatches;
 
-/// The systems at a switch of a configuration are judged, as is asked.
-fn question<'a>(
+/// The systems at a switch of a configuration are judged, as the words ask for, alone or beside it.
+/// Err: the status where they are refused.
+pub(crate) fn senders_question<'a>(
     rt: &HostRuntime,
     matches: &ArgMatches<'_>,
     config: &'a [u8],
     switch: Option<&'a str>,
     choices: &'a Choices,
+    beside: Beside,
 ) -> Result<SenderQuestion<'a>, u8> {
     match SenderChoices::new(choices, copies_apart(matches)) {
         Some(asked) => Ok(SenderQuestion {
             config,
             switch,
+            beside,
             asked,
         }),
         None => Err(refuse(rt, matches, Refused::BadNumber)),
@@ -98,7 +101,7 @@ pub fn judge_what_came(
     let options = taken(rt, matches, came_options(rt.alloc(), matches))?;
     let choices = taken(rt, matches, choices_in(rt.alloc(), matches))?;
     let switch = switch_in(matches);
-    let question = question(rt, matches, config, switch, &choices)?;
+    let question = senders_question(rt, matches, config, switch, &choices, Beside::Nothing)?;
     match options {
         Some(options) => judge_recording(rt, matches, question, word, options),
         None => judge_list(rt, matches, question, word),

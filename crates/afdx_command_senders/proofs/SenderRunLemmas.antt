@@ -27,7 +27,7 @@ use Rattle.afdx_command_conform.specs.Tapped.{is_of_came}
 use Rattle.afdx_command_conform.specs.Telling.{findings_in, lines_text, most_counted, one_if}
 use Rattle.afdx_command_senders.specs.Asked.{Asked, asked_of, came_in, counts, is_missed, left_out_of}
 use Rattle.afdx_command_senders.specs.SenderLines.{AreFirstLines, RunRules, end_by, end_of}
-use Rattle.afdx_command_senders.specs.SenderRun.{HasBegunUpTo, HasToldUpTo, IsSameButTold, MayTellUpTo, TellsMore, TellsSoFar, TellsToEnd, told_text}
+use Rattle.afdx_command_senders.specs.SenderRun.{HasBegunUpTo, HasToldUpTo, IsSameButTold, IsNewRun, MayTellUpTo, TellsMore, TellsSoFar, TellsToEnd, WorksBy, told_text}
 use Rattle.afdx_command_senders.specs.SenderTexts.{lines_of, told_lines}
 use Rattle.afdx_command_senders.specs.declared.asked.SenderChoices.{SenderChoices}
 use Rattle.afdx_command_senders.specs.declared.judging.SendersRun.{SendersRun}
@@ -132,7 +132,7 @@ come-sooner : (time to : ℕ) (more : List Arrival) → time ≤ to → All (λ 
     → All (λ x. time ≤ x.time) more
 come-sooner time to more le h i x at = let later = h i x at in omega (arith, le, later)
 
-come-none : (time : ℕ) → ComeFrom (Some time) []
+pub come-none : (time : ℕ) → ComeFrom (Some time) []
 come-none time = All-nil (λ x. time ≤ x.time)
 
 pub begun-later : (z : Setup) (b before : Option ℕ) (xs : List Arrival) (told : List Line) → IsNoSooner b before
@@ -291,24 +291,32 @@ module _ (a : Asked) (z : Setup) (said : Option ℕ) (x : Frame) (frames : List 
 
 -- ---- once no more frames come
 
-module _ (k : RunRules) (old : SendersRun) (start mid : Option (List ℕ)) (frames : List Frame) (end : ℕ)
-    (is : end ≡ end_by old.asked.choices.now.until old.latest) (h : TellsSoFar k old start mid frames) where
+module _ (k : RunRules) (old : SendersRun) (frames : List Frame) (end : ℕ)
+    (is : end ≡ end_by old.asked.choices.now.until old.latest) (works : WorksBy k frames old) where
   -- that is their end
-  ends-so : end ≡ end_of k frames
+  pub ends-so : end ≡ end_of k frames
   ends-so =
-      is ∙ ap (λ (o : Option ℕ). end_by o old.latest) (ap (λ (b : Asked). b.run.until) h.works.asked)
-      ∙ ap (λ (n : ℕ). end_by k.1.run.until n) h.works.latest ∙ by k.1.run.until
+      is ∙ ap (λ (o : Option ℕ). end_by o old.latest) (ap (λ (b : Asked). b.run.until) works.asked)
+      ∙ ap (λ (n : ℕ). end_by k.1.run.until n) works.latest ∙ by k.1.run.until
     where
       by : (o : Option ℕ) → end_by o (latest_of frames) ≡ until_or o frames
       by None = refl
       by (Some until) = refl
 
-  ends-since : IsEndSince k.1.run.until (latest_of frames) end
+  pub ends-since : IsEndSince k.1.run.until (latest_of frames) end
   ends-since = subst (λ (n : ℕ). IsEndSince k.1.run.until (latest_of frames) n) (sym ends-so) (by k.1.run.until)
     where
       by : (o : Option ℕ) → IsEndSince o (latest_of frames) (until_or o frames)
       by None = omega arith
       by (Some until) = refl
+
+module _ (k : RunRules) (old : SendersRun) (start mid : Option (List ℕ)) (frames : List Frame) (end : ℕ)
+    (is : end ≡ end_by old.asked.choices.now.until old.latest) (h : TellsSoFar k old start mid frames) where
+  so-ends : end ≡ end_of k frames
+  so-ends = ends-so k old frames end is h.works
+
+  since-ends : IsEndSince k.1.run.until (latest_of frames) end
+  since-ends = ends-since k old frames end is h.works
 
   pub may-end : MayTellUpTo None (Some end) old.senders
   may-end = (
@@ -316,7 +324,7 @@ module _ (k : RunRules) (old : SendersRun) (start mid : Option (List ℕ)) (fram
     Some (latest_of frames),
     came_in k.1 frames,
     h.told,
-    h.have end ends-since,
+    h.have end since-ends,
     tt,
     refl,
   )
@@ -327,7 +335,7 @@ module _ (k : RunRules) (old : SendersRun) (start mid : Option (List ℕ)) (fram
   ends-told (Ok v) new last others told =
       let all : HaveTold (ending end k.0) None (came_in k.1 frames) (told.more ++ h.told) new.senders
       × AreToldBefore (ending end k.0) None (came_in k.1 frames) (told.more ++ h.told) =
-      told.up_to (ending end k.0) (Some (latest_of frames)) (came_in k.1 frames) h.told (h.have end ends-since) tt refl
+      told.up_to (ending end k.0) (Some (latest_of frames)) (came_in k.1 frames) h.told (h.have end since-ends) tt refl
       in record {
         told = told.more ++ h.told;
         works = record {
@@ -343,8 +351,8 @@ module _ (k : RunRules) (old : SendersRun) (start mid : Option (List ℕ)) (fram
               ∙ ap (λ (n : ℕ). min n most_counted) (sym (found-told told.more h.told));
         };
         have = subst (λ (n : ℕ). HaveTold (ending n k.0) None (came_in k.1 frames) (told.more ++ h.told) new.senders)
-            ends-so all.0;
-        all = subst (λ (n : ℕ). AreToldBefore (ending n k.0) None (came_in k.1 frames) (told.more ++ h.told)) ends-so
+            so-ends all.0;
+        all = subst (λ (n : ℕ). AreToldBefore (ending n k.0) None (came_in k.1 frames) (told.more ++ h.told)) so-ends
             all.1;
       }
 
@@ -358,9 +366,27 @@ module _ (k : RunRules) (old : SendersRun) (start mid : Option (List ℕ)) (fram
       told = begun.more ++ h.told;
       are = refl;
       are_first = inr (subst (λ (n : ℕ). HaveBegun (ending n k.0) None (came_in k.1 frames) (begun.more ++ h.told))
-          ends-so
-          (begun.up_to (ending end k.0) (Some (latest_of frames)) (came_in k.1 frames) h.told (h.have end ends-since) tt
+          so-ends
+          (begun.up_to (ending end k.0) (Some (latest_of frames)) (came_in k.1 frames) h.told (h.have end since-ends) tt
           refl));
     };
     begun = front-told start mid last begun.more h.told h.writes.written begun.begun;
   }
+
+-- ---- at first
+
+pub new-tells : (k : RunRules) (run : SendersRun) (output : Option (List ℕ)) → IsNewRun k run
+    → TellsSoFar k run output output []
+new-tells k run output h = record {
+  told = [];
+  works = h.works;
+  writes = record {
+    written = text-none output;
+    findings =
+        let none = ap (λ (l : List ConformLine). findings_in l) no-lines ∙ no-findings in
+        let some = h.findings in
+        omega (arith, none, some);
+  };
+  have = h.have;
+  early = h.early;
+}

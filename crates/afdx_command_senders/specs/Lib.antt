@@ -6,4 +6,11 @@ pub mod SenderTexts
 pub mod SenderLines
 pub mod Setting
 pub mod SenderRun
+pub mod BothTold
+pub mod BothLines
+pub mod Merging
+pub mod BothRun
 pub mod SenderAnswers
+pub mod Together
+pub mod TogetherExample
+pub mod Shown

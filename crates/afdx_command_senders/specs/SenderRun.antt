@@ -1,6 +1,6 @@
 -- What a run over what systems sent works with, and has told. Lists of frames have the newest
 -- first.
-use Rattle.std.specs.Prelude.{ℕ, ◌≡◌, ◌<◌, ◌+◌, ◌^◌, List, ◌++◌, length, Option, Some, None, min}
+use Rattle.std.specs.Prelude.{ℕ, ◌≡◌, ◌<◌, ◌+◌, ◌^◌, List, [], ◌++◌, length, map, reverse, Option, Some, None, min}
 use Rattle.std.specs.Io.KnownBytes.{Appends}
 use Rattle.afdx_input_lines.specs.Calls.{AppendsFront}
 use Rattle.afdx_input_sources.specs.Engine.{Item}
@@ -8,10 +8,11 @@ use Rattle.afdx_input_runs.specs.Joining.{Frame, frames_of}
 use Rattle.afdx_input_runs.specs.declared.seen.Seen.{Seen}
 use Rattle.afdx_police.specs.Arrival.{Arrival}
 use Rattle.afdx_senders.specs.History.{HaveTold, IsNoSooner}
-use Rattle.afdx_senders.specs.Lines.{Line}
+use Rattle.afdx_senders.specs.Lines.{Line, line_of}
 use Rattle.afdx_senders.specs.Settling.{IsEnd}
 use Rattle.afdx_senders.specs.Setups.{Setup, ending}
 use Rattle.afdx_senders.specs.Telling.{AreToldBefore, AreToldEarly, HaveBegun, IsEndSince}
+use Rattle.afdx_senders.specs.declared.sender_line.SenderLine.{SenderLine}
 use Rattle.afdx_senders.specs.declared.senders.Senders.{Senders}
 use Rattle.afdx_text.specs.declared.conform_line.Conclusion.{Conclusion}
 use Rattle.afdx_command_conform.specs.Choices.{latest_of}
@@ -25,6 +26,10 @@ use Rattle.afdx_command_senders.specs.declared.judging.SendersRun.{SendersRun}
 -- the text of what is told
 abbrev pub told_text : List Line → List ℕ
 told_text told = lines_text (told_lines told)
+
+-- these, of which the oldest is the first, as they are told
+abbrev pub told_in : List SenderLine → List Line
+told_in lines = reverse (map line_of lines)
 
 -- it works by these rules; so many of the frames are left out, and that is the time of the newest
 pub record WorksBy (k : RunRules) (frames : List Frame) (run : SendersRun) : Type 0 where
@@ -62,6 +67,13 @@ pub record TellsToEnd (k : RunRules) (run : SendersRun) (old new : Option (List 
   pub writes : HasWritten run old new told
   pub have : HaveTold (whole_setup k frames) None (came_in k.1 frames) told run.senders
   pub all : AreToldBefore (whole_setup k frames) None (came_in k.1 frames) told
+
+-- nothing came yet, and nothing is told
+pub record IsNewRun (k : RunRules) (run : SendersRun) : Type 0 where
+  pub works : WorksBy k [] run
+  pub findings : run.findings ≡ 0
+  pub have : HaveToldBefore k 0 [] [] run.senders
+  pub early : AreToldEarly k.0 k.1.run.until 0 [] []
 
 abbrev pub TellsItems : RunRules → SendersRun → (old new : Option (List ℕ)) → List (Item Seen) →
     Type 0
@@ -108,7 +120,15 @@ pub record IsSameButFindings (old new : SendersRun) : Type 0 where
   pub latest : new.latest ≡ old.latest
   pub left_out : new.left_out ≡ old.left_out
 
--- but for that, and what stands for the senders
+-- but for what stands for the senders
+pub record IsSameButSenders (old new : SendersRun) : Type 0 where
+  pub tables : new.tables ≡ old.tables
+  pub asked : new.asked ≡ old.asked
+  pub latest : new.latest ≡ old.latest
+  pub findings : new.findings ≡ old.findings
+  pub left_out : new.left_out ≡ old.left_out
+
+-- but for that, and the number of findings
 pub record IsSameButTold (old new : SendersRun) : Type 0 where
   pub tables : new.tables ≡ old.tables
   pub asked : new.asked ≡ old.asked

@@ -8,6 +8,14 @@ use afdx_command_conform::Choices;
 /// The greatest distance of copies that can be given, in ns.
 const MOST_APART: u64 = 100_000_000;
 
+/// What is judged beside the systems that send to a switch.
+#[derive(Clone, Copy, Debug)]
+pub enum Beside {
+    Nothing,
+    /// The switch itself.
+    Switch,
+}
+
 /// What a run over what systems sent is asked for: what one over a switch is; and by how many ns
 /// the copies of a frame may be sent apart on the two networks, at most 100,000,000; None: by what
 /// the tables leave.

@@ -1,6 +1,6 @@
 //! The machine of a run over what systems sent.
 
-ghost use Rattle.std.specs.Prelude.{◌≡◌, ◌≤◌, ◌+◌, ◌∷◌, [], ℕ, IfOk, List, OnErr, OnOk, Option, Some};
+ghost use Rattle.std.specs.Prelude.{◌≡◌, ◌≤◌, ◌+◌, ◌∷◌, [], ℕ, IfOk, List, None, OnErr, OnOk, Option, Some};
 ghost use Rattle.std.specs.Prelude.{false, length, min};
 ghost use Rattle.std.specs.Io.KnownBytes.{Appends};
 ghost use Rattle.afdx_frame.specs.Seals.{IsSealedAs};
@@ -21,8 +21,9 @@ ghost use Rattle.afdx_command_conform.specs.Telling.{findings_in, lines_text, mo
 ghost use Rattle.afdx_command_senders.specs.Asked.{Asked, asked_of, came_in, left_out_of};
 ghost use Rattle.afdx_command_senders.specs.Outlook.{outlook_of};
 ghost use Rattle.afdx_command_senders.specs.SenderLines as lines;
-ghost use Rattle.afdx_command_senders.specs.SenderLines.{end_by};
-ghost use Rattle.afdx_command_senders.specs.SenderRun.{HasBegunUpTo, HasToldUpTo, MayTellUpTo, TellsItems};
+ghost use Rattle.afdx_command_senders.specs.SenderLines.{RunRules, end_by, sent_of, whole_setup};
+ghost use Rattle.afdx_command_senders.specs.SenderRun.{HasBegunUpTo, HasToldUpTo, IsNewRun, MayTellUpTo};
+ghost use Rattle.afdx_command_senders.specs.SenderRun.{TellsMore, TellsUpTo, WorksBy, told_in, told_text};
 ghost use Rattle.afdx_command_senders.specs.SenderRun as spec;
 ghost use Rattle.afdx_command_senders.specs.SenderTexts as texts;
 ghost use Rattle.afdx_command_senders.specs.Setting.{IsSetting};
@@ -47,12 +48,12 @@ use std::alloc::{AllocError, Global};
 /// many findings were told and lines left out.
 #[derive(Drop)]
 pub(crate) struct SendersRun<'a> {
-    alloc: Global,
+    pub(crate) alloc: Global,
     tables: &'a Tables,
-    asked: SenderChoices<'a>,
+    pub(crate) asked: SenderChoices<'a>,
     senders: Senders<'a>,
-    latest: u64,
-    findings: u64,
+    pub(crate) latest: u64,
+    pub(crate) findings: u64,
     left_out: u64,
 }
 
@@ -78,8 +79,7 @@ impl<'a> SendersRun<'a> {
         taps: &Taps,
     ) -> Result<SendersRun<'a>, AllocError>
         ensures { let a = asked_of (taps_in taps.now) asked.entry in IfOk result (λ run.
-            (z : Setup) × IsSetting (outlook_of outlook.entry) a z
-            × ((output : Option (List ℕ)) → TellsItems (z, a) run output output [])) }
+            (z : Setup) × IsSetting (outlook_of outlook.entry) a z × IsNewRun (z, a) run) }
     {
         let senders = senders_of(alloc, outlook, &asked, recorded_ports(taps))?;
         Ok(SendersRun {
@@ -94,7 +94,11 @@ impl<'a> SendersRun<'a> {
     }
 
     /// Tells what is found of a frame, and counts it.
-    fn tell_line<O: Sink>(&mut self, line: &SenderLine, output: &mut O) -> Result<(), RunFault>
+    pub(crate) fn tell_line<O: Sink>(
+        &mut self,
+        line: &SenderLine,
+        output: &mut O,
+    ) -> Result<(), RunFault>
         requires sound { O.failed output.old ≡ false }
         ensures sink { SinkKept O.failed O.settings output.old output.new result }
         ensures others { spec.IsSameButFindings self.old self.new }
@@ -113,6 +117,41 @@ impl<'a> SendersRun<'a> {
 }
 
 impl SendersRun<'_> {
+    /// What is to be told before this time, in ns, the oldest first; without a time all that is.
+    /// `end` is when the recordings end, if that is known. Fails only out of memory.
+    pub(crate) fn collect(
+        &mut self,
+        before: Option<u64>,
+        end: Option<u64>,
+    ) -> Result<Vec<SenderLine>, AllocError>
+        requires { MayTellUpTo before end self.old.senders }
+        ensures others { spec.IsSameButSenders self.old self.new }
+        ensures told { IfOk result (λ due.
+            TellsUpTo before end self.old.senders self.new.senders (told_in due.items)) }
+    {
+        let mut due = Vec::new(self.alloc);
+        while let Some(line) = self.senders.next(before, end)? {
+            due.push(line)?;
+        }
+        Ok(due)
+    }
+
+    /// Tells what is found of some frames, the oldest first, and counts it.
+    fn tell_lines<O: Sink>(&mut self, lines: &[SenderLine], output: &mut O) -> Result<(), RunFault>
+        requires sound { O.failed output.old ≡ false }
+        ensures sink { SinkKept O.failed O.settings output.old output.new result }
+        ensures others { spec.IsSameButFindings self.old self.new }
+        ensures told { OnOk result (TellsMore self.old self.new
+            (O.written output.old) (O.written output.new) (told_in lines.now)) }
+        ensures begun { OnErr result (AppendsFront (O.written output.old) (O.written output.new)
+            (told_text (told_in lines.now))) }
+    {
+        for line in lines {
+            self.tell_line(line, output)?;
+        }
+        Ok(())
+    }
+
     /// Tells what is to be told before this time, in ns; without a time all that is. `end` is when
     /// the recordings end, if that is known.
     fn tell_due<O: Sink>(
@@ -130,14 +169,12 @@ impl SendersRun<'_> {
         ensures begun { OnErr result (HasBegunUpTo before end self.old
             (O.written output.old) (O.written output.new)) }
     {
-        while let Some(line) = self.senders.next(before, end)? {
-            self.tell_line(&line, output)?;
-        }
-        Ok(())
+        let due = self.collect(before, end)?;
+        self.tell_lines(due.as_slice(), output)
     }
 
     /// Takes a line: it is passed over, or comes to its sender.
-    fn take(&mut self, n: u64, seen: &Seen, message: &[u8]) -> Result<(), AllocError>
+    pub(crate) fn take(&mut self, n: u64, seen: &Seen, message: &[u8]) -> Result<(), AllocError>
         requires time { seen.now.heading.time ≤ latest_listed }
         requires known { IsSealedAs seen.now.heading.seal message.now }
         ensures others { spec.IsSameButTaken self.old self.new }
@@ -181,8 +218,24 @@ impl SendersRun<'_> {
         }
     }
 
+    /// What is counted of the systems, once all is told.
+    pub(crate) fn totals(&self) -> SenderTotals
+        ensures { (k : RunRules) (frames : List Frame) (told : List Line) →
+            WorksBy k frames self.now →
+            HaveTold (whole_setup k frames) None (came_in k.1 frames) told self.now.senders →
+            result ≡ sent_of k frames }
+    {
+        let counts = self.senders.counts();
+        let alone = self.senders.alone();
+        SenderTotals {
+            sent: counts.sent,
+            cut: counts.cut,
+            alone: alone as u64,
+        }
+    }
+
     /// When the recordings end, if no more lines come.
-    fn end_time(&self) -> u64
+    pub(crate) fn end_time(&self) -> u64
         ensures { result ≡ end_by self.now.asked.choices.now.until self.now.latest }
     {
         match self.asked.choices.until {
@@ -234,15 +287,9 @@ impl Judge for SendersRun<'_> {
     ghost HasCounted = { CountsAll };
 
     fn conclusion(&self) -> Conclusion {
-        let counts = self.senders.counts();
-        let alone = self.senders.alone();
+        let senders = self.totals();
         let unseen = unseen_of(self.tables, &Taps::none());
-        let answer = answer_by(self.findings, counts.sent);
-        let senders = SenderTotals {
-            sent: counts.sent,
-            cut: counts.cut,
-            alone: alone as u64,
-        };
+        let answer = answer_by(self.findings, senders.sent);
         Conclusion {
             answer,
             explained: 0,

@@ -1,8 +1,8 @@
 //! The words of `conform`, and what they say.
 
 ghost use Rattle.std.specs.List.{AllZip};
-ghost use Rattle.std.specs.Prelude.{IfOk, codes, map};
-ghost use Rattle.clap.specs.Words.{found_of};
+ghost use Rattle.std.specs.Prelude.{◌≡◌, IfOk, codes, is_some, map};
+ghost use Rattle.clap.specs.Words.{first_value, found_of};
 ghost use Rattle.afdx_command_words.specs.ConformSaid.{NamesLink, SaysConform};
 ghost use Rattle.afdx_command_words.specs.Said.{SaysFlag, SaysNumber, words_of};
 
@@ -70,10 +70,11 @@ CONFIG may describe several switches a side. --switch names the one that is judg
 CAME then has all that came to it, from its systems and by its cables, and each
 --interface says a port.
 
-With --senders the systems are judged as senders, and no switch; with --switch those
-of that switch. CAME alone is given: a list, or with one of the options above a
-recording of what they sent. What came by a cable has no sender there. A line is
-printed for each thing that a system did wrong; n is a line of CAME:
+With --senders the systems are judged as senders, too; with --switch those of that
+switch. They are judged alone where neither LEFT nor --left is given: CAME is then a
+list, or with one of the options above a recording of what they sent. What came by a
+cable has no sender there. A line is printed for each thing that a system did wrong; n
+is a line of CAME:
 
   unlawful n side port WORD  frame n isn't lawful by itself; WORD says why
   number n side port Q       its sequence number isn't Q, which stood next
@@ -93,7 +94,7 @@ A closed pipe, as with '| head', is the fault 'device Write', status 4.
 Examples:
   afdx conform --slack 500 --drift 100 network.toml came.list left.list
   afdx conform --interface 0=A:1 --left 1=A:3 network.toml bench.pcapng
-  afdx conform --senders network.toml came.list";
+  afdx conform --senders network.toml came.list left.list";
 
 const CAME_HELP: &str = "\
 The path of a list or a recording (pcap) of the frames that came, or, without LEFT,
@@ -138,7 +139,9 @@ const EXERCISED_HELP: &str = "\
 Says 'undecided' if of a link at an output port that was recorded no
 frame is explained";
 
-const SENDERS_HELP: &str = "Judges the systems by what they sent: CAME alone";
+const SENDERS_HELP: &str = "\
+Judges the systems by what they sent, too; alone where nothing is given
+of what left";
 
 const APART_HELP: &str = "\
 By how many ns later the copy of a frame may be sent, at most
@@ -176,19 +179,14 @@ fn leave_out_option<'a>(alloc: Global) -> Arg<'a> {
         .action(ArgAction::Append)
 }
 
-/// The option by which senders are judged, and no switch.
-fn senders_option<'a>(alloc: Global) -> Result<Arg<'a>, AllocError> {
+/// The option by which senders are judged.
+fn senders_option<'a>(alloc: Global) -> Arg<'a> {
     flag(alloc, "senders", SENDERS_HELP)
-        .conflicts_with("LEFT")?
-        .conflicts_with("left")
 }
 
 /// The option that says how far apart copies may be sent.
 fn copies_apart_option<'a>(alloc: Global) -> Result<Arg<'a>, AllocError> {
-    time_option(alloc, "apart", APART_HELP)
-        .requires_arg("senders")?
-        .conflicts_with("LEFT")?
-        .conflicts_with("left")
+    time_option(alloc, "apart", APART_HELP).requires_arg("senders")
 }
 
 /// The option by which a switch of several is judged.
@@ -224,7 +222,7 @@ pub fn conform_command<'a>(alloc: Global) -> Result<Command<'a>, AllocError> {
         leave_out_option(alloc),
         flag(alloc, "exercised", EXERCISED_HELP),
         switch_option(alloc),
-        senders_option(alloc)?,
+        senders_option(alloc),
         copies_apart_option(alloc)?,
     ]?;
     let command = command(alloc, "conform", CONFORM_ABOUT, CONFORM_AFTER).args(words)?;
@@ -322,11 +320,18 @@ pub fn conform_options<'a>(
     })
 }
 
-/// Whether senders are judged, and no switch.
+/// Whether senders are judged.
 pub fn wants_senders(matches: &ArgMatches<'_>) -> bool
     ensures { SaysFlag (found_of matches.now) (codes "senders") result }
 {
     is_given(matches, "senders")
+}
+
+/// Whether an option says where frames left.
+pub fn names_left(matches: &ArgMatches<'_>) -> bool
+    ensures { result ≡ is_some (first_value (found_of matches.now) (codes "left")) }
+{
+    matches.get_str("left").is_some()
 }
 
 /// By how many ns later the copy of a frame may be sent on the other network, if that is said; the

@@ -70,8 +70,8 @@ number n side port Q: the system at that port sent frame n of CAME with another 
 than Q, the one behind that of the frame before it of its link there; the first one has 0.
 If it is so once for each link and side, the recorders began in the middle: --from. If the frame has
 0, its system was reset: two runs, --until and --from. A recorder or a mirror that loses frames
-makes such lines, and 'single' on the other network: record at taps. If all frames have it, and
-'differs' too, they have trailers: editcap -L -C -12 and --fcs no.",
+makes such lines, and 'single' on the other network: record at taps. If all frames have it, with
+'single' or 'differs', they have trailers: editcap -L -C -12 and --fcs no.",
     ),
     (
         "\
@@ -80,9 +80,10 @@ soon n A|B n n",
         "\
 soon n side port NS: the system at that port sent frame n of CAME NS ns too soon after those of its
 link before it there, by bag_ms and jitter_us.
-If few frames do, by less than 1000, stamps are cut to us: --slack of half a us. A mirror that
-queues makes such lines: record at the system's cable. A host without priority in real time is held
-up, and one that catches up after a pause sends so: then it is as it is said.",
+If few frames do, by some 100, stamps are late or early by chance: --slack of as much. If many do,
+again and again by few ns, its clock is faster than the recorder's: --drift. A mirror that queues
+makes such lines: record at the system's cable. A host without priority in real time is held up,
+and one that catches up after a pause sends so: then it is as it is said.",
     ),
     (
         "\
@@ -92,7 +93,7 @@ differs n A|B n",
 differs n side port: the system at that port sent frame n of CAME, which isn't the same as its copy
 on the other network.
 The byte of the network in the source address and the check sequence may differ, all else may not.
-If all frames have it, and 'number' too, they have trailers: editcap -L -C -12 and --fcs no.",
+If all frames have it, with 'number', they have trailers: editcap -L -C -12 and --fcs no.",
     ),
     (
         "apart n A|B n n",
@@ -100,8 +101,9 @@ If all frames have it, and 'number' too, they have trailers: editcap -L -C -12 a
 apart n side port NS: the system at that port sent frame n of CAME NS ns later than it may behind
 its copy on the other network: a receiver may take both.
 If nearly all frames have it, by about the same, two recorders' clocks are apart: use one recorder,
-or --slack. In tables by 'afdx solve' skew_us leaves the time on the lines alone: give a greater
-skew_us. A host without priority in real time is held up between its two networks.",
+or --slack. If few have it, by less than 1000, stamps are cut to us: --slack of half a us. In
+tables by 'afdx solve' skew_us leaves the time on the lines alone: give a greater skew_us. A host
+without priority in real time is held up between its two networks.",
     ),
     (
         "\

@@ -2,7 +2,7 @@
 
 ghost use Rattle.std.specs.Prelude.{◌≡◌, ◌<◌, ◌≤◌, length, false, string_bytes, get_or};
 ghost use Rattle.std.specs.Str.{bytes_eq};
-ghost use Rattle.std.specs.Prelude.{None, Ok, Err, IfOk, IfSome, IfErr, OnOk, option_map};
+ghost use Rattle.std.specs.Prelude.{None, Ok, Err, IfOk, IfSome, IfErr, IsTrue, OnOk, option_map};
 ghost use Rattle.afdx_frame.specs.Ports.{last_port};
 ghost use Rattle.afdx_frame.specs.Seals.{IsSealedAs};
 ghost use Rattle.afdx_frame.specs.Times.{latest_listed};
@@ -38,6 +38,20 @@ impl Model for ListedSwitch {
     ghost view = { λ s. record { name = string_bytes s.name; cables = s.cables.items } };
 }
 
+/// Whether two texts may be the same, by their lengths and last bytes. Names of switches often
+/// begin alike.
+fn may_be_same(one: &[u8], other: &[u8]) -> bool
+    ensures { one.now ≡ other.now → IsTrue result }
+{
+    if one.len() != other.len() {
+        return false;
+    }
+    match (one.last(), other.last()) {
+        (Some(x), Some(y)) => *x == *y,
+        _ => true,
+    }
+}
+
 impl ListedSwitch {
     /// A switch of this name. At the place of a port's number, from 0, stands whether a cable to
     /// another switch is there.
@@ -51,7 +65,11 @@ impl ListedSwitch {
     fn has_name(&self, name: &[u8]) -> bool
         ensures { result ≡ bytes_eq name.now self.now.name }
     {
-        name == self.name.as_bytes()
+        let own = self.name.as_bytes();
+        if !may_be_same(name, own) {
+            return false;
+        }
+        name == own
     }
 
     fn has_cable(&self, port: usize) -> bool

@@ -79,6 +79,10 @@ module _ (z : Setup) (until : ℕ) (came left : List Arrival) (place system : �
     unfolding rule_of
     vl-same = refl
 
+    lmin-same : (rule_of z.tables l).lmin ≡ l.lmin
+    unfolding rule_of
+    lmin-same = refl
+
     quiet-parts : IsQuiet source frames
     quiet-parts = ((no_line_is_quiet z came).0 told.no_line).sources place source
         (judged_terms z place l (all.judged place l at sends) at)
@@ -157,7 +161,8 @@ module _ (z : Setup) (until : ℕ) (came left : List Arrival) (place system : �
               let time = no-more-than (byte_ns s) (system-time z.tables system s all.lawful there) in
               omega (arith, line, time);
           inner = all.exact.inner;
-          near = λ bytes. all.near place system bytes l s at there goes sends;
+          near = λ bytes long. all.near place system bytes l s at there goes sends
+              (subst (λ (n : ℕ). n ≤ bytes) lmin-same long);
         }
 
     shown : (side : Side) → IsShown stream (own l.vl side came) (left_of l.vl side s.port left)

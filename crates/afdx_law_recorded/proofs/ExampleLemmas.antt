@@ -126,7 +126,7 @@ way-to until = record {
   longest = omega arith;
   slowest = omega arith;
   inner = refl;
-  near = λ bytes. omega arith;
+  near = λ bytes long. omega arith;
 }
 
 both-sides : (side : Side) → filter (λ f. is_side f.side side) (both_heard 988760)

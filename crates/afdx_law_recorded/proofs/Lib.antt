@@ -4,6 +4,7 @@ pub mod ExampleLemmas
 pub mod PlaceLemmas
 pub mod HeardLemmas
 pub mod MessageLemmas
+pub mod LongLemmas
 pub mod ToldLemmas
 pub mod LeastLemmas
 pub mod NeededLemmas
@@ -11,3 +12,10 @@ pub mod SwitchLemmas
 pub mod AllOnceLemmas
 pub mod WholeLemmas
 pub mod MergeLemmas
+pub mod MadeLemmas
+pub mod FlawlessLemmas
+pub mod EntryLemmas
+pub mod ExactlyLemmas
+pub mod ExactlyExampleLemmas
+pub mod EmittedLemmas
+pub mod LengthLemmas

@@ -4,7 +4,7 @@ use Rattle.std.proofs.Common.{refl, sym, ap, ap₂, ◌∙◌, subst, arith, tak
 use Rattle.std.specs.Prelude.{◌==◌, if◌then◌else◌, get_or, Option, Some, None, Result, Ok, Err, slice_get}
 use Rattle.std.specs.Option.{option_or}
 use Rattle.std.proofs.lemmas.Bool.{ltb-false}
-use Rattle.std.proofs.lemmas.List.{drop_at, drop-drop, drop-take, get_or-drop, get_or-take, length-append, length-drop}
+use Rattle.std.proofs.lemmas.List.{drop_at, drop-drop, drop-take, get_or-drop, get_or-take, length-append}
 use Rattle.std.proofs.lemmas.List.{length-take-le, take-take}
 use Rattle.afdx_frame.specs.Carried.{Carried, carried_by, carried_in_body}
 use Rattle.afdx_frame.specs.Parts.{FrameParts, body_of_frame, frame_of, type_of_frame}
@@ -20,6 +20,7 @@ use Rattle.afdx_lawful.specs.Flaws.{common, flaw_carrying, flaw_in, flaw_of, fra
 use Rattle.afdx_lawful.specs.Sources.{Came, Source, on_side}
 use Rattle.afdx_lawful.proofs.AcceptedLemmas.{right_long}
 use Rattle.afdx_lawful.proofs.CleanLemmas.{AreClean, all_clean}
+use Rattle.afdx_lawful.proofs.DistanceLemmas.{same_long}
 use Rattle.afdx_law_recorded.specs.Pairs.{ArePairsByPlace}
 use Rattle.afdx_law_recorded.specs.Receivers.{BothCarrySame, EachCarriesOne, messages_of, with_message}
 use Rattle.afdx_law_recorded.proofs.PairLemmas.{uncut_in_pairs}
@@ -83,11 +84,11 @@ good-at (x ∷ past) k y h e = by (stands-cases x past k y e) (λ f. good-at pas
 
 -- ---- its message, by its place
 
-slice-last : {X : Type 0} (xs : List X) (x : X) → slice_get (xs ++ x ∷ []) (length xs) ≡ Some x
+pub slice-last : {X : Type 0} (xs : List X) (x : X) → slice_get (xs ++ x ∷ []) (length xs) ≡ Some x
 slice-last [] x = refl
 slice-last (y ∷ xs) x = slice-last xs x
 
-slice-front : {X : Type 0} (xs more : List X) (n : ℕ) (x : X) → slice_get xs n ≡ Some x →
+pub slice-front : {X : Type 0} (xs more : List X) (n : ℕ) (x : X) → slice_get xs n ≡ Some x →
     slice_get (xs ++ more) n ≡ Some x
 slice-front [] more n x h = absurd (cc h)
 slice-front (y ∷ xs) more zero x h = h
@@ -151,23 +152,6 @@ message-at (x ∷ past) k y h e = by (stands-cases x past k y e) (λ f. message-
 inner : List ℕ → List ℕ
 inner bytes = drop 12 (take (length bytes - 4) bytes)
 
-common-length : (a : List ℕ) → 64 ≤ length a → length (common a) ≡ length a - 5
-common-length a long =
-    let rest : length (take (length a - 4) a) ≡ length a - 4 = length-take-le (length a - 4) a (omega arith) in
-    let front : length (take 11 a) ≡ 11 = length-take-le 11 a (omega (arith, long)) in
-    let behind : length (drop 12 (take (length a - 4) a)) ≡ length (take (length a - 4) a) - 12 =
-    length-drop 12 (take (length a - 4) a) in
-    let all : length (common a) ≡ length (take 11 a) + length (drop 12 (take (length a - 4) a)) =
-    length-append (take 11 a) (drop 12 (take (length a - 4) a)) in
-    omega (arith, long, rest, front, behind, all)
-
-pub same-length : (a b : List ℕ) → 64 ≤ length a → 64 ≤ length b → common a ≡ common b → length a ≡ length b
-same-length a b long long' h =
-    let same : length (common a) ≡ length (common b) = ap length h in
-    let of_a = common-length a long in
-    let of_b = common-length b long' in
-    omega (arith, long, long', same, of_a, of_b)
-
 inner-of : (a : List ℕ) → 64 ≤ length a → drop 11 (common a) ≡ inner a
 unfolding inner
 inner-of a long =
@@ -217,7 +201,7 @@ carried-by-front a b p of_a of_b h =
 
 pub same-carried : (a b : List ℕ) → 64 ≤ length a → 64 ≤ length b → common a ≡ common b → carried_by a ≡ carried_by b
 same-carried a b long long' h =
-    let same : length a ≡ length b = same-length a b long long' h in
+    let same : length a ≡ length b = same_long a b long long' h in
     carried-by-front a b (length a - 19) refl (omega (arith, same))
     (same-front a b (2 + (length a - 19 + 1)) long long' h (omega (arith, long)) (omega (arith, long, same)))
 

@@ -1,5 +1,5 @@
 -- The partner of each frame is the one at its place on the other side.
-use Rattle.std.proofs.Common.{◌≡◌, ℕ, zero, suc, ◌+◌, ◌*◌, ◌/◌, ◌-◌, ◌≤◌, Bool, true, false, List, [], ◌∷◌, ◌++◌, length}
+use Rattle.std.proofs.Common.{◌≡◌, ℕ, zero, suc, ◌+◌, ◌*◌, ◌/◌, ◌-◌, ◌≤◌, ◌<◌, Bool, true, false, List, [], ◌∷◌, ◌++◌, length}
 use Rattle.std.proofs.Common.{map, reverse, refl, sym, ap, ap₂, ◌∙◌, subst, arith}
 use Rattle.std.specs.Prelude.{◌&&◌, ◌||◌, not, nat_eq, nat_le, nat_lt, if◌then◌else◌, Option, Some, None, filter}
 use Rattle.std.specs.List.{AllByRecursion, list_any}
@@ -29,7 +29,7 @@ use Rattle.afdx_lawful.specs.declared.finding.SenderFinding.{SenderFinding}
 use Rattle.afdx_lawful.specs.declared.finding.SenderFinding.TheVariants.{Apart, Differs}
 use Rattle.afdx_lawful.proofs.AcceptedLemmas.{come_on}
 use Rattle.afdx_lawful.proofs.CleanLemmas.{AreClean, all_clean, no_parts, whole_same}
-use Rattle.afdx_law_recorded.specs.Pairs.{AreAwaited, AreNumberedByPlace, ArePair, ArePairsByPlace}
+use Rattle.afdx_law_recorded.specs.Pairs.{AreAwaited, AreInPairs, AreNumberedByPlace, ArePair, ArePairsByPlace}
 use Rattle.afdx_law_recorded.specs.Pairs.{IsQuietSource, NoneIsCut, QuietIsInPairs, QuietIsNumbered, UncutIsInPairs}
 
 -- ---- lists of nothing
@@ -446,20 +446,32 @@ module _ (s : Source) (awaited : AreAwaited s) where
       let whole = div-less (parts * apart_by s s.given (length x.bytes)) (parts * 100000000) (slow s) most in
       omega (arith, whole)
 
-  cut-held : s.by.start ≡ None → (xs : List Came) (y : Waiting) → is_cut_of s xs y ≡ true →
-      s.until ≤ y.frame.time + hold s
+  -- a copy that is cut off may be sent behind the end
+  cut-late : s.by.start ≡ None → (xs : List Came) (y : Waiting) → is_cut_of s xs y ≡ true →
+      s.until < y.frame.time + apart s y.frame + slip s
   unfolding is_cut
-  cut-held start xs y h =
+  cut-late start xs y h =
       let others = on_side (other y.frame.side) (whole_of xs) in
       let x = y.frame in
       let a = nat_lt s.until (x.time + apart s x + slip s) in
       let at_first : (a && not (went_on s x others) || false && not (had_begun s x others)) ≡ true =
       subst (λ (o : Option ℕ). (a && not (went_on s x others) || is_before s o x && not (had_begun s x others)) ≡ true)
       start h in
-      let less = ltb-true s.until (x.time + apart s x + slip s)
-      (first-of-both a (not (went_on s x others)) (not (had_begun s x others)) at_first) in
-      let most = within-hold x in
+      ltb-true s.until (x.time + apart s x + slip s)
+      (first-of-both a (not (went_on s x others)) (not (had_begun s x others)) at_first)
+
+  cut-held : s.by.start ≡ None → (xs : List Came) (y : Waiting) → is_cut_of s xs y ≡ true →
+      s.until ≤ y.frame.time + hold s
+  cut-held start xs y h =
+      let less = cut-late start xs y h in
+      let most = within-hold y.frame in
       omega (arith, less, most)
+
+  all-cut-late : s.by.start ≡ None → (xs : List Came) (ys : List Waiting) →
+      AllByRecursion (λ y. is_cut_of s xs y ≡ true) ys →
+      AllByRecursion (λ x. s.until < x.time + apart s x + slip s) (map frame_in ys)
+  all-cut-late start xs [] h = tt
+  all-cut-late start xs (y ∷ ys) h = (cut-late start xs y h.0, all-cut-late start xs ys h.1)
 
   all-cut-held : s.by.start ≡ None → (xs : List Came) (ys : List Waiting) →
       AllByRecursion (λ y. is_cut_of s xs y ≡ true) ys → AllHeld s s.until ys
@@ -493,6 +505,42 @@ module _ (s : Source) (xs : List Came) (awaited : AreAwaited s) (quiet : IsQuiet
   none-waits : NoneIsCut s xs → (side : Side) → waiting s side xs ≡ []
   none-waits uncut side = none-passes (is_cut_of s xs) (waiting s side xs) (are-cut side)
       (ap (filter (is_cut_of s xs)) (sym (waits-of side)) ∙ uncut side)
+
+all-front : {X : Type 0} (P : X → Type 0) (xs ys : List X) → AllByRecursion P (xs ++ ys) → AllByRecursion P xs
+all-front P [] ys h = tt
+all-front P (x ∷ xs) ys h = (h.0, all-front P xs ys h.1)
+
+all-behind : {X : Type 0} (P : X → Type 0) (xs ys : List X) → AllByRecursion P (xs ++ ys) → AllByRecursion P ys
+all-behind P [] ys h = h
+all-behind P (x ∷ xs) ys h = all-behind P xs ys h.1
+
+all-back : {X : Type 0} (P : X → Type 0) (xs : List X) → AllByRecursion P (reverse xs) → AllByRecursion P xs
+all-back P [] h = tt
+all-back {X} P (x ∷ xs) h =
+    let those : AllByRecursion P (reverse xs ++ x ∷ []) =
+    subst (λ (l : List X). AllByRecursion P l) (reverse-first x xs) h in
+    ((all-behind P (reverse xs) (x ∷ []) those).0, all-back P xs (all-front P (reverse xs) (x ∷ []) those))
+
+-- of the frames that are ahead the copies may be sent behind the end
+pub record AreLate (s : Source) (xs : List Came) : Type 0 where
+  pub pairs : AreInPairs s xs
+  pub late : AllByRecursion (λ x. s.until < x.time + apart s x + slip s) pairs.ahead
+
+pub quiet_late : (s : Source) (xs : List Came) → AreAwaited s → IsQuietSource s xs → AreLate s xs
+quiet_late s xs awaited quiet =
+    let al = all-aligned s xs awaited quiet in
+    record {
+      pairs = record {
+        further = al.further;
+        ahead = al.ahead;
+        paired = al.paired;
+        splits = al.splits;
+        pairs = al.pairs;
+      };
+      late = all-back (λ x. s.until < x.time + apart s x + slip s) al.ahead
+          (subst (λ (l : List Came). AllByRecursion (λ x. s.until < x.time + apart s x + slip s) l) al.waits
+          (all-cut-late s awaited quiet.start xs (waiting s al.further xs) (are-cut s xs awaited quiet al.further)));
+    }
 
 pub quiet_in_pairs : QuietIsInPairs
 quiet_in_pairs s xs awaited quiet =

@@ -3,6 +3,7 @@ use Rattle.std.proofs.Common.{◌≡◌, ℕ, zero, suc, ◌+◌, ◌*◌, ◌-�
 use Rattle.std.proofs.Common.{◌++◌, length, map, refl, sym, ap, ap₂, ◌∙◌, subst, arith}
 use Rattle.std.proofs.Math.Nat.{mul_assoc}
 use Rattle.std.specs.Prelude.{nat_eq, if◌then◌else◌, Option, Some, None}
+use Rattle.std.specs.List.{AllByRecursion}
 use Rattle.std.proofs.lemmas.Bool.{cases_lt, cond-true, cond-false, eq-eqb, eqb-true, leb-true, ne_eqb}
 use Rattle.afdx_frame.specs.Regulation.{bag, jitter}
 use Rattle.afdx_frame.specs.Sides.{is_side}
@@ -91,6 +92,19 @@ some-stands (x ∷ past) k less = by (cases_lt k (length past)) (λ h. some-stan
     by (inr last) more =
         let here : k ≡ length past = omega (arith, less, last) in
         record { it = x; there = ap (stands_at (x ∷ past)) here ∙ newest-stands x past }
+
+-- what holds of the newest ones holds of each that stands behind so many others
+pub ahead-at : {X : Type 0} (P : X → Type 0) (ahead before : List X) → AllByRecursion P ahead → (k : ℕ) (x : X) →
+    stands_at (ahead ++ before) k ≡ Some x → length before ≤ k → P x
+ahead-at P [] before h k x there late =
+    absurd (let less = stands-within before k x there in omega (arith, less, late))
+ahead-at P (y ∷ ahead) before h k x there late =
+    by (stands-cases y (ahead ++ before) k x there) (λ e. ahead-at P ahead before h.1 k x e late)
+  where
+    by : IsNewest y (ahead ++ before) k x ⊎ IsOlder (ahead ++ before) k x →
+        (stands_at (ahead ++ before) k ≡ Some x → P x) → P x
+    by (inl newest) more = subst P newest.same h.0
+    by (inr older) more = more older.stands
 
 pub one-stands : {X : Type 0} (xs : List X) (k : ℕ) (x y : X) → stands_at xs k ≡ Some x →
     stands_at xs k ≡ Some y → x ≡ y

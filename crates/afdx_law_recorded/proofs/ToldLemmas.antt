@@ -3,7 +3,7 @@ use Rattle.std.proofs.Common.{◌≡◌, ℕ, zero, suc, ◌+◌, ◌*◌, ◌/�
 use Rattle.std.proofs.Common.{length, map, max, refl, sym, ap, ap₂, ◌∙◌, subst, arith}
 use Rattle.std.specs.Prelude.{IsTrue, filter, nat_le, Some}
 use Rattle.std.proofs.Math.Nat.{mul-div_cancel_left, mul-le-mul}
-use Rattle.std.proofs.lemmas.Bool.{cond-false, cond-true, leb-false, leb-true}
+use Rattle.std.proofs.lemmas.Bool.{cases_lt, cond-false, cond-true, leb-false, leb-true}
 use Rattle.std.proofs.lemmas.List.{length-map, take_all}
 use Rattle.afdx_frame.specs.Carried.{carried_by}
 use Rattle.afdx_frame.specs.Parts.{number_of_frame}
@@ -28,8 +28,10 @@ use Rattle.afdx_lawful.proofs.CleanLemmas.{AreClean, all_clean}
 use Rattle.afdx_law_recorded.specs.Pairs.{AreAwaited, AreInPairs, AreNumberedByPlace, ArePair, IsQuietSource}
 use Rattle.afdx_law_recorded.specs.Receivers.{IsWayTo, RecordedIsToldOnce, heard_as, messages_of, messages_sent}
 use Rattle.afdx_law_recorded.proofs.HeardLemmas.{AreFirstSent, AreNearEnough, IsSentAt, told_once}
+use Rattle.afdx_law_recorded.proofs.LongLemmas.{apart-up, long-one}
 use Rattle.afdx_law_recorded.proofs.MessageLemmas.{IsGood, IsMessageAt, carry-one, good-at, good-on, message-at}
-use Rattle.afdx_law_recorded.proofs.MessageLemmas.{same-carried, same-length}
+use Rattle.afdx_lawful.proofs.DistanceLemmas.{same_long}
+use Rattle.afdx_law_recorded.proofs.MessageLemmas.{same-carried}
 use Rattle.afdx_law_recorded.proofs.OneSideLemmas.{accepted_left}
 use Rattle.afdx_law_recorded.proofs.PairLemmas.{quiet_in_pairs, quiet_numbered}
 use Rattle.afdx_law_recorded.proofs.PlaceLemmas.{further-pairs, newest-stands, older-stands, one-stands}
@@ -115,7 +117,7 @@ record IsNearCopy (s : Source) (x y : Came) : Type 0 where
 
 near-copy : (s : Source) (x y : Came) → IsGood x → IsGood y → ArePair s x y → IsNearCopy s x y
 near-copy s x y gx gy pair = record {
-  length = same-length x.bytes y.bytes gx.least gy.least pair.same;
+  length = same_long x.bytes y.bytes gx.least gy.least pair.same;
   carried = same-carried x.bytes y.bytes gx.least gy.least pair.same;
   soon = pair.x_soon;
 }
@@ -224,9 +226,13 @@ module _ (s : Source) (z : Terms) (way : Way) (xs : List Came) (to : IsWayTo s z
 
   awaited : AreAwaited s
   awaited bytes =
-      let near = to.near bytes in
       let longest = to.longest in
-      omega (arith, near, longest)
+      elim (cases_lt bytes s.rule.lmin) [
+        | inl short ↦ (let near = to.near s.rule.lmin (omega arith) in
+            let less = apart-up s s.given bytes s.rule.lmin (omega (arith, short)) in
+            omega (arith, less, near, longest))
+        | inr long ↦ (let near = to.near bytes long in omega (arith, near, longest))
+      ]
 
   in-pairs : AreInPairs s xs
   in-pairs = quiet_in_pairs s xs awaited quiet
@@ -245,7 +251,7 @@ module _ (s : Source) (z : Terms) (way : Way) (xs : List Came) (to : IsWayTo s z
         let copy = copies s xs in-pairs clean a b k y w here there in
         let exact : apart s y ≡ apart_by s s.given (length y.bytes) =
         apart-exact (apart_by s s.given (length y.bytes)) s.by.drift drift in
-        let left = to.near (length y.bytes) in
+        let left = to.near (length y.bytes) (long-one s xs clean a k y here) in
         let longer : (length y.bytes + 8) * way.byte_ns ≡ (length w.bytes + 8) * z.byte_ns =
         ap₂ (λ (n b : ℕ). (n + 8) * b) copy.length (sym to.line) in
         let soon = copy.soon in

@@ -210,7 +210,7 @@ judged = record {
   exact = record { slack = refl; between = refl; drift = refl; inner = refl; asked = refl; start = refl };
   judged = λ place l at sends. refl;
   recorded = λ side place l at sends. refl;
-  near = λ place system bytes l s at there goes sends.
+  near = λ place system bytes l s at there goes sends long.
       at-receiver (λ (k : ℕ) (m : LinkRow) (r : SystemRow).
       apart_by (terms_at heard_tables heard_setup.recorded heard_setup.asked k m) heard_setup.asked.given bytes
       ≤ left_by (way_at heard_tables m r.port) bytes)

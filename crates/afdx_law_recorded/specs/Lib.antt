@@ -1,5 +1,8 @@
 pub mod OneSide
 pub mod Pairs
+pub mod Exactly
+pub mod Emitted
+pub mod Lengths
 pub mod Receivers
 pub mod Switches
 pub mod Examples

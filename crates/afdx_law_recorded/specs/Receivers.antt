@@ -25,7 +25,8 @@ use Rattle.afdx_law_recorded.specs.Pairs.{AreAwaited, IsQuietSource, NoneIsCut}
 -- The way goes to one of the link's receivers, at whose port the streams of both sides were judged.
 -- Its values are those of tables: the copies of a frame are no further apart than its skew, which
 -- is at most 100 ms, and its line is no slower than 10 Mbit/s. A frame may take nothing inside
--- beyond its latency, and copies are asked to be sent no further apart than this way leaves them.
+-- beyond its latency, and the copies of a frame that is long enough for the link are asked to be
+-- sent no further apart than this way leaves them.
 pub record IsWayTo (s : Source) (z : Terms) (way : Way) : Type 0 where
   pub link : AreOfOneLink s z
   pub rule : IsRule s.rule
@@ -35,7 +36,7 @@ pub record IsWayTo (s : Source) (z : Terms) (way : Way) : Type 0 where
   pub longest : way.skew ≤ 1000 * greatest_delay
   pub slowest : way.byte_ns ≤ slowest_byte
   pub inner : z.by.inner ≡ 0
-  pub near : (bytes : ℕ) → apart_by s s.given bytes ≤ left_by way bytes
+  pub near : (bytes : ℕ) → s.rule.lmin ≤ bytes → apart_by s s.given bytes ≤ left_by way bytes
 
 -- a frame of a link that left the receiver's port on a side, as it comes to the receiver
 abbrev pub heard_as : ℕ → Side → Gone → Incoming

@@ -79,6 +79,7 @@ pub record AllAreJudged (z : Setup) : Type 0 where
       slice_get z.tables.systems system ≡ Some s →
       is_to system l ≡ true →
       l.from < z.tables.own →
+      l.lmin ≤ bytes →
       apart_by (terms_at z.tables z.recorded z.asked place l) z.asked.given bytes
       ≤ left_by (way_at z.tables l s.port) bytes
 

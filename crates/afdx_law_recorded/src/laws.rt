@@ -1,12 +1,18 @@
 //! What recordings say of one link, where nothing is found of its sender, nor of the switch.
 
 ghost use Rattle.afdx_law_recorded.specs.Examples.{CutIsMet, EachIsNeeded, PremisesAreMet};
+ghost use Rattle.afdx_law_recorded.specs.Emitted.{EmittedHasNoLine, EmittedIsNeverAccused};
+ghost use Rattle.afdx_law_recorded.specs.Exactly.{CutExactlyIsMet, CutFoundExactly, ExactlyIsMet};
+ghost use Rattle.afdx_law_recorded.specs.Exactly.{FoundExactly, LawfulShowsNothing};
+ghost use Rattle.afdx_law_recorded.specs.Lengths.{LengthsMatter};
 ghost use Rattle.afdx_law_recorded.specs.OneSide.{SentIsWhatLeft};
 ghost use Rattle.afdx_law_recorded.specs.Pairs.{QuietIsInPairs, QuietIsNumbered, UncutIsInPairs};
 ghost use Rattle.afdx_law_recorded.specs.Receivers.{BothCarrySame, DeparturesMerge, EachCarriesOne};
 ghost use Rattle.afdx_law_recorded.specs.Receivers.{LeastIsLeft, RecordedIsToldOnce};
 ghost use Rattle.afdx_law_recorded.specs.Switches.{AllComeOnce};
 ghost use Rattle.afdx_law_recorded.specs.Whole.{WholeIsMet};
+
+use afdx_send::laws::emissions_are_lawful;
 
 /// On one side: where nothing is found of what a system sent of a link there, and nothing of the
 /// link's stream at a receiver's port, nor is anything open, what left that port is exactly what
@@ -23,6 +29,30 @@ pub fn copies_have_one_place()
     ensures all { UncutIsInPairs }
     ensures numbers { QuietIsNumbered }
 {}
+
+/// On both networks, by exact stamps and clocks and from a reset on: nothing is found of what a
+/// system sent of a link exactly if there are messages, and a stream of them that is lawful on two
+/// networks, of which the frames are what was recorded. So it is where no copy is cut off, and
+/// where all copies may be sent as far apart. Of such a stream nothing is found whatever is cut
+/// off, and whatever the options. Two examples meet the premises. In a third one copies of two
+/// lengths are cut off: nothing is found, and there is no such stream.
+pub fn nothing_is_found_exactly()
+    ensures exactly { FoundExactly }
+    ensures cut { CutFoundExactly }
+    ensures lawful { LawfulShowsNothing }
+    ensures met { ExactlyIsMet }
+    ensures cut_met { CutExactlyIsMet }
+    ensures needed { LengthsMatter }
+{}
+
+/// What a sender emits of a link, at one time on both networks, has no finding, whatever the
+/// options. Where all that came to a switch was emitted so, there is no line of its systems.
+pub fn emitted_is_never_accused()
+    ensures link { EmittedIsNeverAccused }
+    ensures all { EmittedHasNoLine }
+{
+    emissions_are_lawful()
+}
 
 /// Where nothing is found of the sender of a link on both networks, nor of the link's streams at a
 /// receiver's port on both sides, and nothing is open, the receiver gets each message once and in

@@ -20,7 +20,8 @@ use Rattle.afdx_cascade.specs.SwitchEvents.{SwitchEvent, at_switch, came_to}
 use Rattle.afdx_cascade.specs.declared.cascade.Cascade.{Cascade}
 use Rattle.afdx_text.specs.declared.conform_line.Answer.TheVariants.{Conforms, Deviates}
 use Rattle.afdx_command_conform.specs.Choices.{Choices, until_or}
-use Rattle.afdx_command_conform.specs.Lines.{AreLines, Due}
+use Rattle.afdx_command_conform.specs.Lines.{AreLines}
+use Rattle.afdx_command_conform.specs.Lines.{Due}
 use Rattle.afdx_command_conform.specs.RunLaws.{AreOfRight, IsExactBy, NothingIsFound}
 use Rattle.afdx_command_conform.specs.Tapped.{all_taps}
 use Rattle.afdx_command_conform.specs.VerdictLaws.{IsExercised, SomeLeft, answered}

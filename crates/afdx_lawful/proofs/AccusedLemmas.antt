@@ -22,13 +22,13 @@ same_side A = refl
 same_side B = refl
 
 -- nothing is found of the frames of each side by it alone
-AreSilentBoth : Source → List Came → Type 0
+unfoldable pub AreSilentBoth : Source → List Came → Type 0
 AreSilentBoth s xs = (side : Side) → AreSilent s (on_side side xs)
 
 module _ (s : Source) (x : Came) (past : List Came) where
-  record IsFirst : Type 0 where
-    whole : is_whole x ≡ true
-    silent : found_alone s (on_side x.side past) x ≡ []
+  pub record IsFirst : Type 0 where
+    pub whole : is_whole x ≡ true
+    pub silent : found_alone s (on_side x.side past) x ≡ []
 
   split_first : (ys : List Came) → AreSilent s (x ∷ ys) → (is_whole x ≡ true) × (found_alone s ys x ≡ [])
   unfolding AreSilent
@@ -42,11 +42,11 @@ module _ (s : Source) (x : Came) (past : List Came) where
   less true ys h = split_more ys h
   less false ys h = h
 
-  both_less : AreSilentBoth s (x ∷ past) → AreSilentBoth s past
+  pub both_less : AreSilentBoth s (x ∷ past) → AreSilentBoth s past
   unfolding AreSilentBoth
   both_less h side = less (is_side side x.side) (on_side side past) (h side)
 
-  the_first : AreSilentBoth s (x ∷ past) → IsFirst
+  pub the_first : AreSilentBoth s (x ∷ past) → IsFirst
   unfolding AreSilentBoth
   the_first h =
       let here : AreSilent s (x ∷ on_side x.side past) =
@@ -56,7 +56,7 @@ module _ (s : Source) (x : Came) (past : List Came) where
       let parts = split_first (on_side x.side past) here in
       record { whole = parts.0; silent = parts.1 }
 
-all_whole : (s : Source) (xs : List Came) → AreSilentBoth s xs → whole_of xs ≡ xs
+pub all_whole : (s : Source) (xs : List Came) → AreSilentBoth s xs → whole_of xs ≡ xs
 all_whole s [] h = refl
 all_whole s (x ∷ past) h =
     cond-true (is_whole x) (x ∷ whole_of past) (whole_of past) (the_first s x past h).whole
@@ -65,27 +65,38 @@ all_whole s (x ∷ past) h =
 none_with : (s : Source) (x : Came) (waiting : List Waiting) → waiting ≡ [] → found_with s x (partner s x waiting) ≡ []
 none_with s x waiting h = ap (λ (l : List Waiting). found_with s x (partner s x l)) h
 
-none_found : (s : Source) (x : Came) (past : List Came) → s.is_paired ≡ false → AreSilentBoth s (x ∷ past) →
-    found_of s past x ≡ []
+-- nothing is found of a frame, if nothing is by its side alone, nor by its copy
+pub quiet_found : (s : Source) (x : Came) (past : List Came) → AreSilentBoth s (x ∷ past) →
+    found_with s x (partner s x (waiting_of s (other x.side) past)) ≡ [] → found_of s past x ≡ []
 unfolding found_of
-none_found s x past alone h =
+quiet_found s x past h with =
     let first = the_first s x past h in
     let whole : whole_of past ≡ past = all_whole s past (both_less s x past h) in
     let silent : found_alone s (on_side x.side (whole_of past)) x ≡ [] =
     ap (λ (l : List Came). found_alone s (on_side x.side l) x) whole ∙ first.silent in
-    let none : waiting_of s (other x.side) past ≡ [] =
-    cond-false s.is_paired (waiting s (other x.side) (whole_of past)) [] alone in
     cond-true (is_whole x) (found_whole s past x) (flawed s x) first.whole
-    ∙ ap₂ (λ (a b : List SenderFinding). a ++ b) silent (none_with s x (waiting_of s (other x.side) past) none)
+    ∙ ap₂ (λ (a b : List SenderFinding). a ++ b) silent with
+
+none_found : (s : Source) (x : Came) (past : List Came) → s.is_paired ≡ false → AreSilentBoth s (x ∷ past) →
+    found_of s past x ≡ []
+none_found s x past alone h =
+    quiet_found s x past h (none_with s x (waiting_of s (other x.side) past)
+    (cond-false s.is_paired (waiting s (other x.side) (whole_of past)) [] alone))
+
+-- what is found when a frame comes, and then when those before it came
+pub one_coming : (s : Source) (x : Came) (past : List Came) → found_of s past x ≡ [] → found_coming s past ≡ [] →
+    found_coming s (x ∷ past) ≡ []
+unfolding found_coming
+one_coming s x past here before =
+    ap₂ (λ (a : List SenderFinding) (b : List Found). map (found_at x.time x.side) (reverse a) ++ b) here before
 
 none_coming : (s : Source) (xs : List Came) → s.is_paired ≡ false → AreSilentBoth s xs → found_coming s xs ≡ []
 unfolding found_coming
 none_coming s [] alone h = refl
 none_coming s (x ∷ past) alone h =
-    ap₂ (λ (a : List SenderFinding) (b : List Found). map (found_at x.time x.side) (reverse a) ++ b)
-    (none_found s x past alone h) (none_coming s past alone (both_less s x past h))
+    one_coming s x past (none_found s x past alone h) (none_coming s past alone (both_less s x past h))
 
-both_silent : (s : Source) (xs : List Came) → ComeUpTo s.until xs → ((side : Side) → IsRightOn s side xs) →
+pub both_silent : (s : Source) (xs : List Came) → ComeUpTo s.until xs → ((side : Side) → IsRightOn s side xs) →
     AreSilentBoth s xs
 unfolding AreSilentBoth
 both_silent s xs up right side =

@@ -22,11 +22,11 @@ pub no_parts : {X : Type 0} (xs ys : List X) → xs ++ ys ≡ [] → (xs ≡ [])
 no_parts [] ys h = (refl, h)
 no_parts (x ∷ xs) ys h = absurd (cc h)
 
-none_mapped : {X Y : Type 0} (f : X → Y) (xs : List X) → map f xs ≡ [] → xs ≡ []
+pub none_mapped : {X Y : Type 0} (f : X → Y) (xs : List X) → map f xs ≡ [] → xs ≡ []
 none_mapped f [] h = refl
 none_mapped f (x ∷ xs) h = absurd (cc h)
 
-none_reversed : {X : Type 0} (xs : List X) → reverse xs ≡ [] → xs ≡ []
+pub none_reversed : {X : Type 0} (xs : List X) → reverse xs ≡ [] → xs ≡ []
 none_reversed xs h = sym (reverse-reverse xs) ∙ ap reverse h
 
 none_where : (b : Bool) (f : SenderFinding) → (if b then [] else f ∷ []) ≡ [] → b ≡ true

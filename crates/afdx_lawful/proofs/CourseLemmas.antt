@@ -12,7 +12,7 @@ use Rattle.afdx_lawful.specs.Alone.{number_in}
 use Rattle.afdx_lawful.specs.Courses.{AreJudged, ArePast, Course, IsCourse, Unpaired, at_first, came_too, judge_waiting, over, told_at}
 use Rattle.afdx_lawful.specs.Courses.{told_on, waited_of, waited_on}
 use Rattle.afdx_lawful.specs.Flaws.{is_whole, whole_of}
-use Rattle.afdx_lawful.specs.Partners.{Waiting, is_before, is_cut, is_near, other}
+use Rattle.afdx_lawful.specs.Partners.{Waiting, is_before, is_cut, is_near, most_steps, other}
 use Rattle.afdx_lawful.specs.Sources.{Came, Source, apart, hold, on_side, slip}
 use Rattle.afdx_lawful.proofs.CutLemmas.{up_later}
 use Rattle.afdx_lawful.proofs.PastLemmas.{all_and, past_later}
@@ -40,8 +40,8 @@ module _ (s : Source) (x y : Came) (behind : y.time + hold s < x.time) where
   cut_and xs =
       ap₂ (λ (w h : Bool). nat_lt s.until (y.time + apart s y + slip s) && not w
       || is_before s s.by.start y && not h)
-      (none_near (λ n. is_within_steps 127 (number_in y) n) xs)
-      (none_near (λ n. is_within_steps 127 n (number_in y)) xs)
+      (none_near (λ n. is_within_steps most_steps (number_in y) n) xs)
+      (none_near (λ n. is_within_steps most_steps n (number_in y)) xs)
 
   pub on_then : (side : Side) (xs : List Came) →
       is_cut s (on_side side (whole_of (x ∷ xs))) y ≡ is_cut s (on_side side (whole_of xs)) y

@@ -12,7 +12,8 @@ use Rattle.afdx_lawful.specs.Courses.{told_at}
 use Rattle.afdx_lawful.specs.Flaws.{is_whole, whole_of}
 use Rattle.afdx_lawful.specs.Judged.{is_cut_of}
 use Rattle.afdx_lawful.specs.LastCame.{stands_so}
-use Rattle.afdx_lawful.specs.Partners.{Waiting, had_begun, is_before, is_cut, is_near, other, went_on}
+use Rattle.afdx_lawful.specs.Partners.{Waiting, had_begun, is_before, is_cut, is_near, most_steps, other}
+use Rattle.afdx_lawful.specs.Partners.{went_on}
 use Rattle.afdx_lawful.specs.Sources.{Came, Source, apart, hold, on_side, slip}
 
 -- ---- times of some of the frames
@@ -82,11 +83,11 @@ module _ (s : Source) (xs : List Came) (y : Waiting) (up : ComeUpTo (told_at s y
       list_any (λ (x : Came). nat_le moment x.time && stands_so later number (number_in x)) others
 
   went : went_on s y.frame others ≡ any_since (y.frame.time - hold s) (number_in y.frame) true
-  went = near_since s y.frame (λ n. is_within_steps 127 (number_in y.frame) n) (told_at s y) others
+  went = near_since s y.frame (λ n. is_within_steps most_steps (number_in y.frame) n) (told_at s y) others
       (omega arith) others_up
 
   begun : had_begun s y.frame others ≡ any_since (y.frame.time - hold s) (number_in y.frame) false
-  begun = near_since s y.frame (λ n. is_within_steps 127 n (number_in y.frame)) (told_at s y) others
+  begun = near_since s y.frame (λ n. is_within_steps most_steps n (number_in y.frame)) (told_at s y) others
       (omega arith) others_up
 
   module _ (moment number : ℕ) (moment-is : moment ≡ y.frame.time - hold s) (number-is : number ≡ number_in y.frame)

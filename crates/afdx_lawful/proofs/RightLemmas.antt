@@ -25,12 +25,12 @@ use Rattle.afdx_lawful.proofs.TrackLemmas.{told_found}
 
 -- ---- a frame by itself
 
-record IsSeenSo (s : Source) (x : Came) (number : ℕ) : Type 0 where
-  whole : is_whole x ≡ true
-  flawless : flaw_of s x ≡ None
-  numbered : number_in x ≡ number
+pub record IsSeenSo (s : Source) (x : Came) (number : ℕ) : Type 0 where
+  pub whole : is_whole x ≡ true
+  pub flawless : flaw_of s x ≡ None
+  pub numbered : number_in x ≡ number
 
-seen_so : (s : Source) (x : Came) (n : ℕ) → IsLawfulFrame s x n → IsSeenSo s x n
+pub seen_so : (s : Source) (x : Came) (n : ℕ) → IsLawfulFrame s x n → IsSeenSo s x n
 unfolding is_whole number_in
 seen_so s x n h =
     let r = reading_is_computed.only_one x.bytes s.rule.vl h.from_port h.to_port n h.payload h.bytes h.reads in
@@ -78,11 +78,11 @@ right_number s first x (w ∷ before) begun h more =
 -- ---- its room
 
 -- from one frame to a later one
-record IsBehind (s : Source) (n : ℕ) (v x : Sent) : Type 0 where
-  release : bag (regulation_of s.rule) * n + v.release ≤ x.release
-  moments : v.moment ≤ x.moment
-  clocks : v.clock ≤ x.clock
-  fastest : 1000000 * (x.clock - v.clock) ≤ fast s * (x.moment - v.moment)
+pub record IsBehind (s : Source) (n : ℕ) (v x : Sent) : Type 0 where
+  pub release : bag (regulation_of s.rule) * n + v.release ≤ x.release
+  pub moments : v.moment ≤ x.moment
+  pub clocks : v.clock ≤ x.clock
+  pub fastest : 1000000 * (x.clock - v.clock) ≤ fast s * (x.moment - v.moment)
 
 parted : (k a b c : ℕ) → c ≤ b → b ≤ a → k * (a - b) + k * (b - c) ≡ k * (a - c)
 parted k a b c low high =
@@ -90,7 +90,7 @@ parted k a b c low high =
     let whole : k * ((a - b) + (b - c)) ≡ k * (a - c) = ap (λ n. k * n) sum in
     omega (arith, whole)
 
-one_behind : (s : Source) (w x : Sent) → Follows s w x → IsBehind s 1 w x
+pub one_behind : (s : Source) (w x : Sent) → Follows s w x → IsBehind s 1 w x
 one_behind s w x h = record {
   release = omega (arith, h.gap);
   moments = h.goes_on.moments;
@@ -98,7 +98,7 @@ one_behind s w x h = record {
   fastest = h.goes_on.fastest;
 }
 
-more_behind : (s : Source) (n : ℕ) (v w x : Sent) → Follows s v w → IsBehind s n w x → IsBehind s (n + 1) v x
+pub more_behind : (s : Source) (n : ℕ) (v w x : Sent) → Follows s v w → IsBehind s n w x → IsBehind s (n + 1) v x
 more_behind s n v w x h b =
     let clocks : 1000000 * (x.clock - w.clock) + 1000000 * (w.clock - v.clock) ≡ 1000000 * (x.clock - v.clock) =
     parted 1000000 x.clock w.clock v.clock h.goes_on.clocks b.clocks in

@@ -3,6 +3,7 @@ use Rattle.std.specs.Prelude.{◌≡◌, ℕ, ◌+◌, Bool, nat_eq, if◌then�
 use Rattle.std.specs.Prelude.{List, [], ◌∷◌, get_or}
 use Rattle.afdx_receive.specs.Steps.{is_within_steps}
 use Rattle.afdx_lawful.specs.Alone.{number_in}
+use Rattle.afdx_lawful.specs.Partners.{most_steps}
 use Rattle.afdx_lawful.specs.Sources.{Came}
 use Rattle.afdx_lawful.specs.declared.last.LastCame.{LastCame}
 
@@ -21,7 +22,8 @@ behind (Some time) = time + 1
 abbrev pub AreLast : List Came → LastCame → Type 0
 AreLast xs last = (number : ℕ) → get_or last.behind number 0 ≡ behind (last_time number xs)
 
--- the second number stands 1 to 127 steps behind the first, or before it
+-- the second number stands so few steps behind the first, or before it
 abbrev pub stands_so : Bool → ℕ → ℕ → Bool
 stands_so is_later number other =
-    if is_later then is_within_steps 127 number other else is_within_steps 127 other number
+    if is_later then is_within_steps most_steps number other
+    else is_within_steps most_steps other number

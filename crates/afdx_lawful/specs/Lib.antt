@@ -10,12 +10,16 @@ pub mod Limits
 pub mod Paces
 pub mod Tracks
 pub mod Right
+pub mod RightTwice
+pub mod RightExample
 pub mod Rings
 pub mod Ways
 pub mod OneSide
 pub mod Senders
 pub mod TwoNetworks
+pub mod Recorded
 pub mod Nearness
+pub mod RecordedExample
 pub mod Courses
 pub mod LastCame
 pub mod Tallies

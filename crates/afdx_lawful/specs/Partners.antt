@@ -23,6 +23,12 @@ unfoldable pub without_first : {X : Type 0} → (X → Bool) → List X → List
 without_first test [] = []
 without_first test (x ∷ xs) = if test x then xs else x ∷ without_first test xs
 
+-- A number stands behind another if at most so many steps lead there. Of a right sender's frames
+-- one that was sent before stands so only if it is 210 places back: too long ago to be near,
+-- however far apart copies may be sent.
+abbrev pub most_steps : ℕ
+most_steps = 45
+
 module _ (s : Source) where
   -- the frame may be the copy of one that waits: it has the same number, and came within the hold
   unfoldable pub may_pair : Came → Waiting → Bool
@@ -53,15 +59,15 @@ module _ (s : Source) where
   abbrev pub is_near : Came → Came → Bool
   is_near x y = nat_le x.time (y.time + hold s) && nat_le y.time (x.time + hold s)
 
-  -- its side went on: one of these is near whose number is 1 to 127 steps behind its own
+  -- its side went on: one of these is near whose number is so few steps behind its own
   abbrev pub went_on : Came → List Came → Bool
   went_on x others =
-      list_any (λ y. is_near x y && is_within_steps 127 (number_in x) (number_in y)) others
+      list_any (λ y. is_near x y && is_within_steps most_steps (number_in x) (number_in y)) others
 
   -- its side had begun: it stands so behind one of them
   abbrev pub had_begun : Came → List Came → Bool
   had_begun x others =
-      list_any (λ y. is_near x y && is_within_steps 127 (number_in y) (number_in x)) others
+      list_any (λ y. is_near x y && is_within_steps most_steps (number_in y) (number_in x)) others
 
   abbrev pub is_before : Option ℕ → Came → Bool
   is_before None x = false

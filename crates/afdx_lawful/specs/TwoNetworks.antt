@@ -47,8 +47,8 @@ pub record AreCopies (apart : ℕ) (y : SentTwice) : Type 0 where
 
 -- On each network each frame is sent as many gaps behind any before it as stand between, but for
 -- the jitter. The k-th frame carries the k-th message on both, under the number to which k steps
--- lead from 0, and its copies are sent at most so many ns apart.
-pub record IsLawfulTwice (s : SystemRow) (l : LinkRow) (apart : ℕ) (messages : List Message)
+-- lead from 0, and its copies are sent at most so many ns apart, by their length.
+pub record IsLawfulTwice (s : SystemRow) (l : LinkRow) (apart : ℕ → ℕ) (messages : List Message)
     (stream : List SentTwice) : Type 0 where
   pub count : length messages ≡ length stream
   pub spaced : (side : Side) (j d : ℕ) (y z : SentTwice) →
@@ -60,7 +60,9 @@ pub record IsLawfulTwice (s : SystemRow) (l : LinkRow) (apart : ℕ) (messages :
       sent_at messages k ≡ Some x →
       slice_get stream k ≡ Some y →
       IsReadAs s l side x (frame_on side y)
-  pub copies : (k : ℕ) (y : SentTwice) → slice_get stream k ≡ Some y → AreCopies apart y
+  pub copies : (k : ℕ) (y : SentTwice) →
+      slice_get stream k ≡ Some y →
+      AreCopies (apart (length y.a)) y
 
 -- what is given to both networks at one time
 abbrev pub at_once : Sending → SentTwice
@@ -72,4 +74,4 @@ abbrev pub BuiltIsLawfulTwice : Type 0
 BuiltIsLawfulTwice =
     (s : SystemRow) (l : LinkRow) (messages : List Message) (stream : List Sending) →
     IsLawfulStream s l messages stream →
-    IsLawfulTwice s l 0 messages (map at_once stream)
+    IsLawfulTwice s l (λ bytes. 0) messages (map at_once stream)

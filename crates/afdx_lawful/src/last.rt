@@ -8,10 +8,14 @@ ghost use Rattle.afdx_receive.specs.Steps.{is_within_steps};
 ghost use Rattle.afdx_lawful.specs.Accepted.{ComeUpTo};
 ghost use Rattle.afdx_lawful.specs.Alone.{number_in};
 ghost use Rattle.afdx_lawful.specs.LastCame.{AreLast, stands_so};
+ghost use Rattle.afdx_lawful.specs.Partners.{most_steps};
 ghost use Rattle.afdx_lawful.specs.Sources.{Came};
 
 /// How many sequence numbers there are.
 const NUMBERS: usize = 256;
+
+/// By so many steps at most a number stands behind another.
+const MOST_STEPS: u8 = 45;
 
 /// Of each sequence number the moment behind the last frame of a side that had it, in ns; 0: none
 /// had it.
@@ -20,16 +24,16 @@ pub(crate) struct LastCame {
     behind: [u64; NUMBERS],
 }
 
-/// Whether the second number stands 1 to 127 steps behind the first (ARINC 664 Part 7).
+/// Whether the second number stands 1 to 45 steps behind the first (ARINC 664 Part 7).
 fn is_behind(number: u8, other: u8) -> bool
-    ensures { result ≡ is_within_steps 127 number other }
+    ensures { result ≡ is_within_steps most_steps number other }
 {
     if other == 0 {
         false
     } else if other > number {
-        other - number <= 127
+        other - number <= MOST_STEPS
     } else {
-        255 - (number - other) <= 127
+        255 - (number - other) <= MOST_STEPS
     }
 }
 
@@ -79,7 +83,7 @@ impl LastCame {
         self.behind[number as usize] = time + 1;
     }
 
-    /// Whether a frame that came at this moment, in ns, or later has a number that stands 1 to 127
+    /// Whether a frame that came at this moment, in ns, or later has a number that stands 1 to 45
     /// steps behind this one, or before it.
     pub fn any_since(&self, moment: u64, is_later: bool, number: u8) -> bool
         ensures { (xs : List Came) (end : ℕ) → AreLast xs self.now → ComeUpTo end xs →

@@ -93,7 +93,7 @@ fn may_be_before(start: Option<u64>, time: u64, reach: u64) -> bool
 }
 
 /// Whether it may be so, and no frame that came at this moment, in ns, or later tells otherwise:
-/// one whose number stands 1 to 127 steps behind this one, or before it.
+/// one whose number stands 1 to 45 steps behind this one, or before it.
 fn is_unsaid(may_be: bool, others: &LastCame, moment: u64, is_later: bool, number: u8) -> bool
     ensures { (xs : List Came) (end : ℕ) → AreLast xs others.now → ComeUpTo end xs →
         result ≡ (may_be && not (list_any

@@ -9,6 +9,7 @@ use Rattle.afdx_police.specs.declared.shape.Reason.{Reason}
 use Rattle.afdx_port.specs.Due.{IsBy, order_of}
 use Rattle.afdx_port.specs.History.{left_of, due_at}
 use Rattle.afdx_port.specs.Schedule.{Turn}
+use Rattle.afdx_port.specs.declared.left.Due.{Due}
 use Rattle.afdx_switch.specs.Calls as calls
 use Rattle.afdx_switch.specs.Departures.{as_given, giving_port, giving_side}
 use Rattle.afdx_switch.specs.HeldFrames.{HeldFrame}
@@ -21,7 +22,7 @@ use Rattle.afdx_switch.specs.Verdicts.{numbers}
 use Rattle.afdx_switch.specs.declared.verdict.Verdict.{Verdict}
 use Rattle.afdx_switch.specs.declared.verdict.Verdict.TheVariants.{Dropped, Accepted}
 use Rattle.afdx_network.specs.Events.{Event, Came, Left, Admission, Departure, departure_with, admission_after, arrivals_in, turns_on, calls_on}
-use Rattle.afdx_network.specs.First.{IsFirstOf}
+use Rattle.afdx_network.specs.First.{IsFirstOf, IsFirstSide}
 use Rattle.afdx_network.specs.Order.{IsAmong, AreInOrder, is_below, is_before, key, side_number}
 use Rattle.afdx_network.specs.declared.network.Network.{Network}
 
@@ -73,6 +74,14 @@ pub record TellsOrder (n : Network) (order : ℕ) (side : Side) : Type 0 where
   pub tells_a : calls.TellsOrder n.switches.a a
   pub tells_b : calls.TellsOrder n.switches.b b
   pub first : IsFirstOf a b order side
+
+-- the first turn of both sides is that of this side, and is given by then
+pub record IsFirstBy (n : Network) (until : ℕ) (side : Side) : Type 0 where
+  pub a : Option Due
+  pub b : Option Due
+  pub tells_a : calls.TellsDue n.switches.a a
+  pub tells_b : calls.TellsDue n.switches.b b
+  pub first : IsFirstSide until a b (Some side)
 
 -- how many frames the output ports of both switches hold
 abbrev pub frames_held : Network → ℕ

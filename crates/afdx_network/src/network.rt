@@ -59,7 +59,8 @@ impl Network {
     ghost use Rattle.afdx_switch.specs.Verdicts.{shape_fault};
     ghost use Rattle.afdx_network.specs.Events.{Event, Came, admission_after, arrivals_in};
     ghost use Rattle.afdx_network.specs.Order.{AreEvents};
-    ghost use Rattle.afdx_network.specs.Network.{IsUntil, IsQuiet, StandsFor, Tells, TellsOrder, Gives, frames_held};
+    ghost use Rattle.afdx_network.specs.Network.{IsUntil, IsQuiet, IsFirstBy, StandsFor, Tells, TellsOrder};
+    ghost use Rattle.afdx_network.specs.Network.{Gives, frames_held};
 
     /// The switches of these tables at time 0, with full accounts and idle ports.
     /// The error says that memory was refused.
@@ -154,8 +155,22 @@ impl Network {
         ensures clock { IsUntil self.new until }
     {
         let side = first_side(self.switches.a.order(), self.switches.b.order(), until)?;
-        let departure = self.switches.get_mut(side).take(until)?;
-        Some(departure.on(side))
+        Some(self.take_first(side, until))
+    }
+
+    /// The next departure of both sides, where it is one of this side by `until`: then
+    /// `take(until)` would give it.
+    #[inline(always)]
+    pub fn take_first(&mut self, side: Side, until: u64) -> Departure
+        requires clock { IsUntil self.old until }
+        requires first { IsFirstBy self.old until side }
+        ensures given { (t : Rows) (events : List Event) → StandsFor t self.old events →
+            Gives t events until result self.new }
+        ensures held { frames_held self.new + 1 ≡ frames_held self.old }
+        ensures clock { IsUntil self.new until }
+    {
+        let departure = self.switches.get_mut(side).take_due(until);
+        departure.on(side)
     }
 
     /// Gives a departure back, of these switches or of others, once its frame was read: a frame

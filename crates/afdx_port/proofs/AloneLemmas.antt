@@ -10,11 +10,12 @@ use Rattle.afdx_port.specs.declared.left.Due.{Due}
 use Rattle.afdx_port.specs.declared.port_state.Waiting.{Waiting}
 use Rattle.afdx_port.specs.declared.port_state.PortState.{PortState}
 use Rattle.afdx_port.specs.Facts.{Facts, AreLawful}
-use Rattle.afdx_port.specs.Held.{IsQuiet, ready, choice, choice_of, queue_of, due_from, due_of}
+use Rattle.afdx_port.specs.Held.{IsQuiet, IsNextClass, ready, choice, choice_of, queue_of, due_from, due_of}
 use Rattle.afdx_port.specs.Times.{drain_end}
 use Rattle.afdx_port.specs.Due.{IsAfter, given_at}
 use Rattle.afdx_port.specs.Calls.{Advances, Puts}
 use Rattle.afdx_port.specs.Sound.{IsPortSound}
+use Rattle.afdx_port.proofs.QueueLemmas.{pair_same}
 use Rattle.afdx_port.proofs.DueLemmas.{due_busy, due_idle, has_front}
 use Rattle.afdx_port.proofs.BeginLemmas.{clock_advances}
 use Rattle.afdx_port.proofs.SoundLemmas.{Stays, stays}
@@ -71,6 +72,32 @@ module _ {X : Type 0} where
   alone-advances facts p time sound clock alone = clock_advances facts p time sound clock
       (λ c moment idle chosen. absurd (alone-chosen facts p c moment alone chosen))
 
+  -- then it goes next
+  pub alone-next : (facts : X → Facts) (old mid : PortState X) (time : ℕ) (c : Priority) (x : X) (n : ℕ)
+      → Pushes facts old mid time c x n → due_of facts old ≡ None →
+      choice_of (record mid { waiting = mid.waiting + n }) ≡ Some (c, max time mid.free)
+  alone-next facts old mid time c x n p alone = chosen c own others
+    where
+      own : queue_of c mid ≡ record { time = time; item = x } ∷ []
+      own = p.queue ∙ ap (λ ws. ws ++ record { time = time; item = x } ∷ []) (alone-queue facts old c alone)
+
+      others : queue_of (other c) mid ≡ []
+      others = (stays c old mid p.changes).others ∙ alone-queue facts old (other c) alone
+
+      chosen : (d : Priority) → queue_of d mid ≡ record { time = time; item = x } ∷ [] → queue_of (other d) mid ≡ []
+          → choice (ready mid.free mid.high.items) (ready mid.free mid.low.items) ≡ Some (d, max time mid.free)
+      chosen High e f = ap (λ ws. choice (ready mid.free ws) (ready mid.free mid.low.items)) e
+          ∙ ap (λ ws. choice (Some (max time mid.free)) (ready mid.free ws)) f
+      chosen Low e f = ap (λ ws. choice (ready mid.free mid.high.items) (ready mid.free ws)) e
+          ∙ ap (λ ws. choice (ready mid.free ws) (Some (max time mid.free))) f
+
+  -- and its class is the next one
+  pub alone-class : (facts : X → Facts) (old mid : PortState X) (time : ℕ) (c : Priority) (x : X) (n : ℕ)
+      → Pushes facts old mid time c x n → due_of facts old ≡ None →
+      IsNextClass c (record mid { waiting = mid.waiting + n })
+  alone-class facts old mid time c x n p alone d moment idle is =
+      (pair_same (c, max time mid.free) (d, moment) (sym (alone-next facts old mid time c x n p alone) ∙ is)).0
+
   -- its turn is then due
   pub alone-pushed : (facts : X → Facts) (old mid : PortState X) (time : ℕ) (c : Priority) (x : X) (n : ℕ)
       → Pushes facts old mid time c x n → due_of facts old ≡ None →
@@ -78,8 +105,8 @@ module _ {X : Type 0} where
       ≡ Some (due_from facts old.byte_ns (record { time = time; item = x }) (max time old.free))
   alone-pushed facts old mid time c x n p alone =
       due_idle facts (record mid { waiting = mid.waiting + n }) c (max time mid.free)
-      (record { time = time; item = x }) (st.sending ∙ alone-idle facts old alone) (chosen c own others)
-      (front c own)
+      (record { time = time; item = x }) (st.sending ∙ alone-idle facts old alone)
+      (alone-next facts old mid time c x n p alone) (front c own)
       ∙ (ap (λ b. Some (due_from facts b (record { time = time; item = x }) (max time mid.free))) st.byte_ns
       ∙ ap (λ f. Some (due_from facts old.byte_ns (record { time = time; item = x }) (max time f))) st.free)
     where
@@ -89,21 +116,11 @@ module _ {X : Type 0} where
       own : queue_of c mid ≡ record { time = time; item = x } ∷ []
       own = p.queue ∙ ap (λ ws. ws ++ record { time = time; item = x } ∷ []) (alone-queue facts old c alone)
 
-      others : queue_of (other c) mid ≡ []
-      others = st.others ∙ alone-queue facts old (other c) alone
-
       front : (d : Priority) → queue_of d mid ≡ record { time = time; item = x } ∷ []
           → slice_get (queue_of d (record mid { waiting = mid.waiting + n })) 0
           ≡ Some (record { time = time; item = x })
       front High e = ap (λ ws. slice_get ws 0) e
       front Low e = ap (λ ws. slice_get ws 0) e
-
-      chosen : (d : Priority) → queue_of d mid ≡ record { time = time; item = x } ∷ [] → queue_of (other d) mid ≡ []
-          → choice (ready mid.free mid.high.items) (ready mid.free mid.low.items) ≡ Some (d, max time mid.free)
-      chosen High e f = ap (λ ws. choice (ready mid.free ws) (ready mid.free mid.low.items)) e
-          ∙ ap (λ ws. choice (Some (max time mid.free)) (ready mid.free ws)) f
-      chosen Low e f = ap (λ ws. choice (ready mid.free mid.high.items) (ready mid.free ws)) e
-          ∙ ap (λ ws. choice (ready mid.free ws) (Some (max time mid.free))) f
 
   -- nothing is given by any time
   pub alone-quiet : (facts : X → Facts) (p : PortState X) (t : ℕ) → due_of facts p ≡ None → IsQuiet facts p t

@@ -9,5 +9,6 @@ pub mod BeginLemmas
 pub mod PutLemmas
 pub mod TakeLemmas
 pub mod AloneLemmas
+pub mod NextClassLemmas
 pub mod FirstLemmas
 pub mod ServingLemmas

@@ -4,7 +4,6 @@ use Rattle.std.proofs.Common.{set, Option, Some, IfSome, inl, inr, refl, sym, ap
 use Rattle.std.proofs.Common.{suc, zero, min, None, ◌⊎◌}
 use Rattle.std.proofs.Math.Logic.{∥∥₁_elim, ∥∥₁_map}
 use Rattle.std.proofs.Math.Bridge.{le_prop}
-use Rattle.std.specs.Prelude.{All}
 use Rattle.std.specs.List.{slice_get}
 use Rattle.std.proofs.lemmas.Bool.{cases_lt, cases_eq}
 use Rattle.std.proofs.lemmas.List.{length-set}
@@ -15,11 +14,11 @@ use Rattle.afdx_port.specs.declared.left.Due.{Due}
 use Rattle.afdx_port.specs.declared.serving.Serving.{Serving}
 use Rattle.afdx_port.specs.Facts.{Facts}
 use Rattle.afdx_port.specs.Due.{given_at}
-use Rattle.afdx_port.specs.Held.{due_of, IsQuiet}
+use Rattle.afdx_port.specs.Held.{due_of}
 use Rattle.afdx_port.specs.Ports.{order_at, AreLimited, AreServed}
 use Rattle.afdx_port.specs.Keys.{key_of, IsLeastIn, AreRanked}
 use Rattle.afdx_port.specs.Serving.{IsServing}
-use Rattle.afdx_port.proofs.FirstLemmas.{limit-step, before-each, before-same, all-quiet}
+use Rattle.afdx_port.proofs.FirstLemmas.{limit-step}
 
 -- one number more
 pub least-next : (numbers : List ℕ) (from to least n m : ℕ) → IsLeastIn numbers from to least
@@ -309,60 +308,3 @@ module _ {X : Type 0} (facts : X → Facts) where
     limit = λ place p d below at due.
         serving.limit place p d (omega (arith, below, count, serving.port_count)) (same place ∙ at) due;
   }
-
-  -- a port at which the same is due keeps its place among all
-  module _ (ports : List (PortState X)) (place : ℕ) (p new : PortState X) (at : slice_get ports place ≡ Some p)
-      (same : due_of facts new ≡ due_of facts p) where
-    within : place < length ports
-    within = slice_get_within ports place p at
-
-    old-at : (j : ℕ) (q : PortState X) → slice_get (set ports place new) j ≡ Some q
-        → (r : PortState X) × (slice_get ports j ≡ Some r) × (due_of facts q ≡ due_of facts r)
-    old-at j q there = elim (cases_eq j place) [
-      | inl here ↦ (
-          let is_new : slice_get (set ports place new) place ≡ Some new = slice_get-set_same ports place new within in
-          let is_q : slice_get (set ports place new) place ≡ Some q =
-          subst (λ z. slice_get (set ports place new) z ≡ Some q) here there in
-          let e : new ≡ q = cc in
-          (p, subst (λ z. slice_get ports z ≡ Some p) (sym here) at, ap (λ z. due_of facts z) (sym e) ∙ same))
-      | inr other ↦ (q, sym (slice_get-set_other ports place j new other) ∙ there, refl)
-    ]
-
-    limit-kept : AreLimited facts ports (length ports)
-        → AreLimited facts (set ports place new) (length (set ports place new))
-    limit-kept limit j q d below there due =
-        let r = old-at j q there in
-        limit j r.0 d (slice_get_within ports j r.0 r.1) r.1 (sym r.2 ∙ due)
-
-    pub serving-kept : (s : Serving) → IsServing facts ports s → IsServing facts (set ports place new) s
-    serving-kept s serving = record {
-      port_count = length-set ports place new ∙ serving.port_count;
-      keys = λ j q there. (let r = old-at j q there in
-          serving.keys j r.0 r.1 ∙ ap (λ d. Some (key_of (order_at d) j)) (sym r.2));
-      limit = limit-kept serving.limit;
-    }
-
-    pub served-kept : AreServed facts ports place → AreServed facts (set ports place new) place
-    served-kept served = record {
-      first = record {
-        below = subst (λ n. place < n) (sym (length-set ports place new)) within;
-        p = new;
-        stands = slice_get-set_same ports place new within;
-        least = λ j q below there. (let r = old-at j q there in
-            let least = before-each facts ports place served p at j r.0 (slice_get_within ports j r.0 r.1) r.1 in
-            let mine = ap order_at same in
-            let other = ap order_at r.2 in
-            omega (arith, least, mine, other));
-        first = λ j q below there equal. (let r = old-at j q there in
-            before-same facts ports place served p at j r.0 (slice_get_within ports j r.0 r.1) r.1
-            (sym (ap order_at same) ∙ equal ∙ ap order_at r.2));
-      };
-      limit = limit-kept served.limit;
-    }
-
-    -- where it gives nothing by then, no port does
-    pub quiet-kept : AreServed facts ports place → (until : ℕ) → IsQuiet facts new until
-        → All (λ q. IsQuiet facts q until) (set ports place new)
-    quiet-kept served until quiet =
-        all-quiet facts (set ports place new) place (served-kept served) new
-        (slice_get-set_same ports place new within) until quiet

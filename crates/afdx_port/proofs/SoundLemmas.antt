@@ -1,7 +1,7 @@
 -- The times of a sound port fit.
 use Rattle.std.proofs.Common.{IfSome, Bool, true, false, if◌then◌else◌, is_some, ◌≡◌, ℕ, ◌+◌, ◌*◌}
 use Rattle.std.proofs.Common.{◌<◌, ◌≤◌, ◌^◌, List, [], ◌∷◌, length, Option, Some, None, sum_by}
-use Rattle.std.proofs.Common.{refl, sym, ap, subst, arith, max, ◌∙◌}
+use Rattle.std.proofs.Common.{refl, sym, ap, subst, arith, max}
 use Rattle.std.specs.List.{AllByRecursion, slice_get}
 use Rattle.std.proofs.lemmas.List.Sums.{sum_by-cons}
 use Rattle.std.proofs.Math.Nat.{mul-le-mul, mul-le-mul_left}
@@ -15,7 +15,7 @@ use Rattle.afdx_port.specs.Schedule.{lasting}
 use Rattle.afdx_port.specs.Due.{IsAfter}
 use Rattle.afdx_port.specs.Held.{ready, choice, choice_of, queue_of, is_too_old, due_of, IsQuiet}
 use Rattle.afdx_port.specs.Sound.{ChangesQueue, IsPortSound}
-use Rattle.afdx_port.proofs.QueueLemmas.{choice_high, choice_low, pair_same}
+use Rattle.afdx_port.proofs.QueueLemmas.{choice_high, choice_low}
 use Rattle.afdx_port.proofs.DueLemmas.{due_idle, due_nothing, has_front, not_empty}
 use Rattle.afdx_port.proofs.HistoryLemmas.{other}
 
@@ -38,16 +38,6 @@ pub busy_from_test : {Y : Type 0} (o : Option Y) (b : Bool) → b ≡ is_some o 
     → ⊥
 busy_from_test None b e f none = cc
 busy_from_test (Some y) b e f none = cc none
-
--- what is chosen, where the choice is known
-pub none_chosen : {o p : Option (Priority × ℕ)} {d : Priority} {n : ℕ} → o ≡ p → o ≡ None
-    → p ≡ Some (d, n) → ⊥
-none_chosen same none chosen = let e = sym none ∙ (same ∙ chosen) in cc e
-
-pub late_chosen : {o p : Option (Priority × ℕ)} {c d : Priority} {m n t : ℕ} → o ≡ p
-    → o ≡ Some (c, m) → p ≡ Some (d, n) → t ≤ m → t ≤ n
-late_chosen {c = c} {d = d} {m = m} {n = n} same is chosen late =
-    let k : m ≡ n = (pair_same (c, m) (d, n) (sym is ∙ (same ∙ chosen))).1 in omega arith
 
 module _ {X : Type 0} where
   -- frames have at least 64 bytes

@@ -63,6 +63,11 @@ module _ {X : Type 0} where
   abbrev pub due_of : (X → Facts) → PortState X → Option Due
   due_of facts p = due_first p.free p.sending (due_next facts p (choice_of p))
 
+  -- where no turn has begun, the frame that goes next is of this class, if one waits
+  abbrev pub IsNextClass : Priority → PortState X → Type 0
+  IsNextClass class p = (c : Priority) (moment : ℕ) →
+      p.sending ≡ None → choice_of p ≡ Some (c, moment) → class ≡ c
+
   -- no further turn is given by t
   abbrev pub IsQuiet : (X → Facts) → PortState X → ℕ → Type 0
   IsQuiet facts p t = IfSome (due_of facts p) (λ d. IsAfter t d)

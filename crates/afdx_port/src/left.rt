@@ -9,9 +9,9 @@ use afdx_frame::Priority;
 #[derive(Debug, Drop)]
 pub struct Left<T> {
     pub item: T,
-    pub priority: Priority,
     /// When its slot ended, in ns. For a frame that was dropped, the moment of its turn.
     pub end: u64,
+    pub priority: Priority,
     /// The frame was dropped: its turn came when its longest wait was past.
     pub too_old: bool,
 }

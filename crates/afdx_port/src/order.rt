@@ -1,7 +1,7 @@
 //! The order in which ports are served together.
 
 ghost use Rattle.std.specs.Prelude.{◌≡◌, ◌≤◌, ◌↔◌, Option, None, IsTrue, IfSome};
-ghost use Rattle.afdx_port.specs.Due.{given_at};
+ghost use Rattle.afdx_port.specs.Due.{given_at, order_of};
 ghost use Rattle.afdx_port.specs.Ports.{order_at, IsGivenBy};
 ghost use Rattle.afdx_port.specs.Times.{drain_end};
 ghost use Rattle.afdx_port.specs.declared.left.Due.{Due as DueTurn};
@@ -43,6 +43,17 @@ impl TurnOrder {
             time: self.0 / 2,
             too_old: self.0 % 2 == 1,
         })
+    }
+
+    /// The turn that is due, where one is.
+    #[inline]
+    pub(crate) fn turn(self) -> Due
+        ensures { (due : DueTurn) → self.0 ≡ order_of due → result ≡ due }
+    {
+        Due {
+            time: self.0 / 2,
+            too_old: self.0 % 2 == 1,
+        }
     }
 
     /// Whether no turn is due.

@@ -22,6 +22,8 @@ pub struct Port<T: HasLength> {
     state: PortState<T>,
     /// Where the next turn stands among those of ports that are served together.
     order: TurnOrder,
+    /// The class of its frame, where that turn hasn't begun.
+    class: Priority,
 }
 
 impl<T: HasLength> Model for Port<T> {
@@ -30,7 +32,7 @@ impl<T: HasLength> Model for Port<T> {
     ghost Value = { PortState T };
 
     ghost use Rattle.std.specs.Prelude.{◌≡◌};
-    ghost use Rattle.afdx_port.specs.Held.{due_of};
+    ghost use Rattle.afdx_port.specs.Held.{due_of, IsNextClass};
     ghost use Rattle.afdx_port.specs.Sound.{IsPortSound};
 
     ghost view = { λ p. p.state };
@@ -38,12 +40,12 @@ impl<T: HasLength> Model for Port<T> {
     ghost use Rattle.afdx_port.specs.Ports.{order_at};
 
     ghost invariant = { λ p. IsPortSound T.facts p.state
-        × (p.order.0 ≡ order_at (due_of T.facts p.state)) };
+        × (p.order.0 ≡ order_at (due_of T.facts p.state)) × IsNextClass p.class p.state };
 }
 
 impl<T: HasLength> Port<T> {
     ghost use Rattle.afdx_port.specs.Due.{given_at};
-    ghost use Rattle.afdx_port.specs.Ports.{order_at, order_without_turn};
+    ghost use Rattle.afdx_port.specs.Ports.{order_at, order_without_turn, IsGivenBy};
     ghost use Rattle.afdx_port.specs.Held.{IsByteTime, due_of, IsQuiet, last_time, frames_held};
     ghost use Rattle.afdx_port.specs.Calls.{Puts, Takes};
     ghost use Rattle.afdx_port.specs.History.{PortHistory, StandsFor, no_calls, due_at};
@@ -62,6 +64,7 @@ impl<T: HasLength> Port<T> {
         Ok(Port {
             state: PortState::new(alloc, byte_ns, buffer)?,
             order: TurnOrder::of(None),
+            class: Priority::High,
         })
     }
 
@@ -82,11 +85,13 @@ impl<T: HasLength> Port<T> {
                 Err(item) => return Err(item),
             };
             self.order = TurnOrder::of(Some(due));
+            self.class = priority;
             return Ok(());
         }
-        let taken = self.state.put(time, priority, item, self.order);
+        let taken = self.state.put(time, priority, item, self.order, self.class);
         if !self.state.is_sending() {
             self.order = TurnOrder::of(self.state.due());
+            self.class = self.state.next_class();
         }
         taken
     }
@@ -137,12 +142,20 @@ impl<T: HasLength> Port<T> {
             self.state.wait(until);
             return None;
         }
-        let Some(due) = self.order.due() else {
-            // Never: a port without a turn to come gives nothing.
-            unreachable!();
-        };
-        let left = self.state.take(until, due);
+        Some(self.take_due(until))
+    }
+
+    /// The next turn, where it is over by `until`: then `take(until)` would give it.
+    #[inline(always)]
+    pub fn take_due(&mut self, until: u64) -> Left<T>
+        requires clock { last_time self.old ≤ until }
+        requires given { IsGivenBy until (due_of T.facts self.old) }
+        ensures { Takes T.facts self.old self.new until (Some result) }
+    {
+        let due = self.order.turn();
+        let left = self.state.take(until, due, self.class);
         self.order = TurnOrder::of(self.state.due());
+        self.class = self.state.next_class();
         left
     }
 }

@@ -1,7 +1,7 @@
 //! What a port still has to do: its two queues, and the frame that is being sent.
 
 ghost use Rattle.std.specs.Prelude.{◌≡◌, ℕ, ◌+◌, ◌-◌, ◌*◌, ◌/◌, ◌<◌, ◌≤◌, ◌^◌, ◌⊎◌, [], ◌∷◌};
-ghost use Rattle.std.specs.Prelude.{◌++◌, Some, None, IfOk, OnErr};
+ghost use Rattle.std.specs.Prelude.{◌++◌, Some, None, IfOk, OnOk, OnErr};
 ghost use Rattle.std.specs.Prelude.{IfSome, OnSome, IfNone, MatchOption};
 ghost use Rattle.std.specs.Prelude.{is_some, option_copied, slice_get, true};
 ghost use Rattle.afdx_frame.specs.Regulation.{slowest_byte};
@@ -54,6 +54,7 @@ fn is_too_old(longest_wait: Option<u64>, time: u64, moment: u64) -> bool
 
 /// Takes the first frame of a queue. A lone frame leaves it where it stands, so that a queue of few
 /// frames doesn't go round all its places.
+#[inline(always)]
 fn pop_first<T>(queue: &mut HeapCircularBuffer<Waiting<T>>) -> Option<Waiting<T>>
     ensures first { MatchOption result (queue.old.items ≡ [])
         (λ w. queue.old.items ≡ w ∷ queue.new.items) }
@@ -70,7 +71,7 @@ impl<T: HasLength> PortState<T> {
     ghost use Rattle.afdx_port.specs.Due.{given_at, IsBy};
     ghost use Rattle.afdx_port.specs.Ports.{order_at};
     ghost use Rattle.afdx_port.specs.Held.{IsByteTime, choice_of, queue_of, due_from, due_of};
-    ghost use Rattle.afdx_port.specs.Held.{IsQuiet, frames_held};
+    ghost use Rattle.afdx_port.specs.Held.{IsQuiet, IsNextClass, frames_held};
     ghost use Rattle.afdx_port.specs.Sound.{ChangesQueue, HasRoom, IsPortSound};
     ghost use Rattle.afdx_port.specs.History.{StandsFor, no_calls};
     ghost use Rattle.afdx_port.specs.Calls.{Advances, BeginsBefore, Puts, Takes};
@@ -111,6 +112,17 @@ impl<T: HasLength> PortState<T> {
             (Some(high), _) => Some((Priority::High, high)),
             (None, Some(low)) => Some((Priority::Low, low)),
             (None, None) => None,
+        }
+    }
+
+    /// The class that goes next, if a frame waits.
+    #[inline]
+    pub(crate) fn next_class(&self) -> Priority
+        ensures { (c : Priority) (moment : ℕ) → choice_of self.now ≡ Some (c, moment) → result ≡ c }
+    {
+        match self.next_choice() {
+            Some((class, _)) => class,
+            None => Priority::High,
         }
     }
 
@@ -168,6 +180,7 @@ impl<T: HasLength> PortState<T> {
     }
 
     /// Takes the first frame of a class.
+    #[inline(always)]
     fn pop(&mut self, priority: Priority) -> Option<Waiting<T>>
         ensures first { MatchOption result (queue_of priority self.old ≡ [])
             (λ w. queue_of priority self.old ≡ w ∷ queue_of priority self.new) }
@@ -221,34 +234,34 @@ impl<T: HasLength> PortState<T> {
         }
     }
 
-    /// Begins the next turn, if its moment is before `time`. `order` says when that turn is over.
+    /// Begins the next turn, if its moment is before `time`. `order` says when that turn is over,
+    /// `class` of which class its frame is.
     #[inline(always)]
-    fn advance(&mut self, time: u64, order: TurnOrder)
+    fn advance(&mut self, time: u64, order: TurnOrder, class: Priority)
         requires clock { self.old.clock ≤ time }
         requires sound { IsPortSound T.facts self.old }
         requires order { order.0 ≡ order_at (due_of T.facts self.old) }
+        requires class { IsNextClass class self.old }
         ensures { Advances T.facts self.old self.new time }
     {
         self.clock = time;
         if self.sending.is_some() {
             return;
         }
-        let Some((priority, moment)) = self.next_choice() else {
+        let Some(front) = self.front(class) else {
             return;
         };
+        let moment = front.time.max(self.free);
         if moment >= time {
             return;
         }
-        let Some(due) = order.due() else {
-            // Never: a frame waits.
-            unreachable!();
-        };
-        let left = self.begin(priority, due);
+        let due = order.turn();
+        let left = self.begin(class, due);
         self.sending = Some(left);
     }
 
     /// Offers a frame. While a turn has begun, that doesn't change when the next one is over, of
-    /// which `order` says when that is.
+    /// which `order` says when that is, and `class` of which class its frame is.
     #[inline]
     pub(crate) fn put(
         &mut self,
@@ -256,18 +269,20 @@ impl<T: HasLength> PortState<T> {
         priority: Priority,
         item: T,
         order: TurnOrder,
+        class: Priority,
     ) -> Result<(), T>
         requires clock { self.old.clock ≤ time }
         requires limit { time ≤ latest_put }
         requires quiet { IsQuiet T.facts self.old time }
         requires sound { IsPortSound T.facts self.old }
         requires order { order.0 ≡ order_at (due_of T.facts self.old) }
+        requires class { IsNextClass class self.old }
         ensures sound { IsPortSound T.facts self.new }
         ensures puts { Puts T.facts self.old self.new time priority item result }
         ensures due { is_some self.new.sending ≡ true →
             due_of T.facts self.new ≡ due_of T.facts self.old }
     {
-        self.advance(time, order);
+        self.advance(time, order, class);
         let length = item.length();
         if self.waiting + length > self.buffer {
             return Err(item);
@@ -289,6 +304,7 @@ impl<T: HasLength> PortState<T> {
         ensures due { IfOk result (λ due. due_of T.facts self.new ≡ Some due) }
         ensures limit { IfOk result (λ due. given_at due ≤ drain_end) }
         ensures none { OnErr result (due_of T.facts self.new ≡ None) }
+        ensures class { OnOk result (IsNextClass priority self.new) }
     {
         self.clock = time;
         let length = item.length();
@@ -308,25 +324,26 @@ impl<T: HasLength> PortState<T> {
         self.clock = time;
     }
 
-    /// Takes the next turn, which is over at `due`, and is given by `until`.
+    /// Takes the next turn, which is over at `due`, and is given by `until`. `class` says of which
+    /// class its frame is.
     #[inline(always)]
-    pub(crate) fn take(&mut self, until: u64, due: Due) -> Option<Left<T>>
+    pub(crate) fn take(&mut self, until: u64, due: Due, class: Priority) -> Left<T>
         requires clock { self.old.clock ≤ until }
         requires sound { IsPortSound T.facts self.old }
         requires due { due_of T.facts self.old ≡ Some due }
         requires given { IsBy until due }
+        requires class { IsNextClass class self.old }
         ensures sound { IsPortSound T.facts self.new }
-        ensures takes { Takes T.facts self.old self.new until result }
+        ensures takes { Takes T.facts self.old self.new until (Some result) }
     {
         self.clock = until;
         if self.sending.is_some() {
-            return self.sending.take();
+            let Some(left) = self.sending.take() else {
+                // Never: a turn has begun.
+                unreachable!();
+            };
+            return left;
         }
-        let Some((priority, _)) = self.next_choice() else {
-            // Never: a turn is due.
-            unreachable!();
-        };
-        let left = self.begin(priority, due);
-        Some(left)
+        self.begin(class, due)
     }
 }

@@ -12,7 +12,7 @@ use Rattle.afdx_send.specs.Agenda.{IsAhead, IsSooner, IsWinner, IsTournament, ti
 use Rattle.afdx_send.specs.Agenda.{IsSoonest, next_with}
 use Rattle.afdx_send.proofs.ReleaseLemmas.{get_set_same, get_set_other, length_set}
 
-ahead_same : (a : Option NextRelease) → IsAhead a a
+pub ahead_same : (a : Option NextRelease) → IsAhead a a
 ahead_same None = tt
 ahead_same (Some x) = (omega arith, λ e. omega arith)
 

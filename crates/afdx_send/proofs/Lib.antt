@@ -1,6 +1,7 @@
 mod RegulatorLemmas
 mod ReleaseLemmas
 mod AgendaLemmas
+mod NodeLemmas
 mod LineLemmas
 mod OwnLemmas
 mod StandLemmas
@@ -18,6 +19,7 @@ mod CallLemmas
 mod NumberLemmas
 mod BuildableLemmas
 mod DoneLemmas
+mod IdleLemmas
 mod OrderLemmas
 mod CompleteLemmas
 pub mod OneLemmas

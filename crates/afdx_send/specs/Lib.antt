@@ -2,6 +2,7 @@ pub mod Releases
 pub mod Frames
 pub mod FramesLaw
 pub mod Emissions
+pub mod Nodes
 pub mod Agenda
 pub mod Regulator
 pub mod Lines

@@ -19,6 +19,7 @@ use Rattle.afdx_law_bounds.specs.Tables.{sent_flow}
 use Rattle.afdx_port.specs.History as port
 use Rattle.afdx_port.specs.Held as held
 use Rattle.afdx_port.specs.Schedule.{Turn, IsSchedule}
+use Rattle.afdx_port.specs.Times.{drain_end}
 use Rattle.afdx_port.specs.declared.left.Left.{Left}
 use Rattle.afdx_send.specs.declared.fault.SendFault.{SendFault}
 use Rattle.afdx_send.specs.declared.fault.SendFault.TheVariants.{NotMyLink, NoSuchSub, Empty, TooLarge, QueueFull, Memory}
@@ -204,6 +205,11 @@ pub record IsIdle (w : SenderState) : Type 0 where
   pub ready : w.ready ≡ None
   pub quiet : held.IsQuiet facts w.output w.clock
   pub none : NoneBefore (nexts_of w) w.clock
+
+-- where it says that it is idle, it is, before the end of the drain
+pub record KnowsIdle (w : SenderState) : Type 0 where
+  pub idle : w.is_idle ≡ true → IsIdle w
+  pub soon : w.is_idle ≡ true → w.clock < drain_end
 
 -- an emission as what is sent
 abbrev pub sending_of : Emission → Sending

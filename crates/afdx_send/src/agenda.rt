@@ -1,16 +1,36 @@
 //! The soonest of several releases, found by a tournament.
 
-ghost use Rattle.std.specs.Prelude.{◌≡◌, ℕ, ◌+◌, ◌*◌, ◌<◌, ◌≤◌, ◌↔◌, IsTrue, false, List, Option, Some, None, IfOk, MatchOption, option_map, length, replicate, slice_set, vec_len};
+ghost use Rattle.std.specs.Prelude.{◌≡◌, ℕ, ◌+◌, ◌*◌, ◌<◌, ◌≤◌, ◌↔◌, ◌==◌, ◌&&◌, IsTrue, false, List, Option, Some, None, IfOk, MatchOption, option_map, length, replicate, slice_set, vec_len};
 ghost use Rattle.afdx_config.specs.Reading.{most_links};
-ghost use Rattle.afdx_send.specs.Agenda.{IsAhead, IsSooner, IsPlayed, IsSoonest, NoneBefore, nexts, next_with};
+ghost use Rattle.afdx_send.specs.Agenda.{IsSooner, IsPlayed, IsSoonest, NoneBefore, nexts, next_with};
+ghost use Rattle.afdx_send.specs.Nodes.{IsNode, greatest, rank_of};
 
 use std::alloc::{AllocError, Global};
+use std::marker::Model;
 
 /// When a link's next release is. `place` is the link's.
 #[derive(Clone, Copy, Debug, PartialEq, Eq, Drop)]
 pub(crate) struct NextRelease {
     pub(crate) time: u64,
     pub(crate) place: usize,
+}
+
+/// A node: when a link's next release is, or that it has none. Then both numbers are the greatest.
+#[derive(Debug, Drop)]
+pub(crate) struct Node {
+    time: u64,
+    place: usize,
+}
+
+impl Model for Node {
+    ghost use Rattle.std.specs.Prelude.{Option};
+    ghost use Rattle.afdx_send.specs.declared.agenda.NextRelease.{NextRelease};
+
+    ghost Value = { Option NextRelease };
+
+    ghost use Rattle.afdx_send.specs.Nodes.{release_in};
+
+    ghost view = { λ n. release_in n.time n.place };
 }
 
 /// When each link's next release is, kept so that the soonest of all is at hand: a tournament.
@@ -21,48 +41,92 @@ pub(crate) struct NextRelease {
 #[derive(Drop)]
 pub(crate) struct ReleaseAgenda {
     count: usize,
-    nodes: Vec<Option<NextRelease>>,
+    nodes: Vec<Node>,
 }
 
-/// Whether the first goes before the other.
-fn is_ahead(x: NextRelease, y: NextRelease) -> bool
-    ensures ahead { IsTrue result → IsAhead (Some x) (Some y) }
-    ensures behind { result ≡ false → IsAhead (Some y) (Some x) }
+/// A time with a place behind it.
+fn joined(time: u64, place: usize) -> u128
+    ensures sum { result ≡ time * 0x10000000000000000 + place }
+    ensures time { time < 0x10000000000000000 }
+    ensures place { place < 0x10000000000000000 }
 {
-    if x.time == y.time {
-        x.place <= y.place
+    u128::from(time) * 0x1_0000_0000_0000_0000 + place as u128
+}
+
+/// Whether these two numbers say that there is no release.
+fn is_none(time: u64, place: usize) -> bool
+    ensures { result ≡ (time == greatest && place == greatest) }
+{
+    time == u64::MAX && place == usize::MAX
+}
+
+impl Node {
+    /// No release.
+    fn none() -> Node
+        ensures { result ≡ None }
+    {
+        Node {
+            time: u64::MAX,
+            place: usize::MAX,
+        }
+    }
+
+    /// What it goes by.
+    fn rank(&self) -> u128
+        ensures rank { result ≡ rank_of self.now }
+        ensures small { IsNode self.now }
+    {
+        joined(self.time, self.place)
+    }
+
+    /// Another of the same.
+    fn again(&self) -> Node
+        ensures { result ≡ self.now }
+    {
+        Node {
+            time: self.time,
+            place: self.place,
+        }
+    }
+
+    /// The release, if there is one.
+    fn release(&self) -> Option<NextRelease>
+        ensures { result ≡ self.now }
+    {
+        if is_none(self.time, self.place) {
+            return None;
+        }
+        Some(NextRelease {
+            time: self.time,
+            place: self.place,
+        })
+    }
+}
+
+fn sooner(a: &Node, b: &Node) -> Node
+    ensures { IsSooner result a.now b.now }
+{
+    if a.rank() <= b.rank() {
+        a.again()
     } else {
-        x.time < y.time
+        b.again()
     }
 }
 
-fn sooner(a: Option<NextRelease>, b: Option<NextRelease>) -> Option<NextRelease>
-    ensures { IsSooner result a b }
+fn is_same(a: &Node, b: &Node) -> bool
+    ensures { IsTrue result → a.now ≡ b.now }
 {
-    match (a, b) {
-        (None, _) => b,
-        (Some(_), None) => a,
-        (Some(x), Some(y)) => { if is_ahead(x, y) { a } else { b } }
-    }
-}
-
-fn is_same(a: Option<NextRelease>, b: Option<NextRelease>) -> bool
-    ensures { IsTrue result → a ≡ b }
-{
-    match (a, b) {
-        (Some(x), Some(y)) => x.time == y.time && x.place == y.place,
-        (None, None) => true,
-        _ => false,
-    }
+    a.rank() == b.rank()
 }
 
 /// The node of a link.
-fn leaf(time: Option<u64>, place: usize) -> Option<NextRelease>
+fn leaf(time: Option<u64>, place: usize) -> Node
+    requires { place < most_links }
     ensures { result ≡ option_map (next_with place) time }
 {
     match time {
-        Some(time) => Some(NextRelease { time, place }),
-        None => None,
+        Some(time) => Node { time, place },
+        None => Node::none(),
     }
 }
 
@@ -76,7 +140,7 @@ impl ReleaseAgenda {
     {
         let mut nodes = Vec::with_capacity(alloc, 2 * count)?;
         for _ in 0..2 * count {
-            nodes.push(None)?;
+            nodes.push(Node::none())?;
         }
         Ok(ReleaseAgenda { count, nodes })
     }
@@ -87,7 +151,11 @@ impl ReleaseAgenda {
         ensures { MatchOption result ((t : ℕ) → NoneBefore (nexts self.now) t)
             (λ next. IsSoonest (nexts self.now) next.time next.place) }
     {
-        if self.count == 0 { None } else { self.nodes[1] }
+        if self.count == 0 {
+            None
+        } else {
+            self.nodes[1].release()
+        }
     }
 
     /// From now on the next release of the link at this place is then.
@@ -102,8 +170,8 @@ impl ReleaseAgenda {
         self.nodes[node] = leaf(time, place);
         node /= 2;
         while node >= 1 {
-            let winner = sooner(self.nodes[2 * node], self.nodes[2 * node + 1]);
-            if is_same(winner, self.nodes[node]) {
+            let winner = sooner(&self.nodes[2 * node], &self.nodes[2 * node + 1]);
+            if is_same(&winner, &self.nodes[node]) {
                 // Those above were played with it.
                 return;
             }

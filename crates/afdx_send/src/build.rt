@@ -7,7 +7,7 @@ ghost use Rattle.afdx_config.specs.Lawful.{IsLinkUpTo, jitter_from_any};
 ghost use Rattle.afdx_config.specs.Reading.{most_links};
 ghost use Rattle.afdx_config.specs.Rows.{SystemRow, LinkRow, link_row};
 ghost use Rattle.afdx_send.specs.declared.line.SystemLink.{SystemLink};
-ghost use Rattle.afdx_send.specs.Sender.{IsSenderSound, IsQuiet, StandsFor, no_calls, last_time, frames_held};
+ghost use Rattle.afdx_send.specs.Sender.{IsSenderSound, IsQuiet, KnowsIdle, StandsFor, no_calls, last_time, frames_held};
 ghost use Rattle.afdx_send.specs.New.{IsNewLine, AreNewLines, IsPlaceIn};
 
 use crate::agenda::ReleaseAgenda;
@@ -82,6 +82,7 @@ pub(crate) fn build(
 ) -> Result<SenderState, AllocError>
     requires system { system.0 < tables.now.own }
     ensures sound { IfOk result (λ w. IsSenderSound w) }
+    ensures knows { IfOk result (λ w. KnowsIdle w) }
     ensures stands { (s : SystemRow) → slice_get tables.now.systems system.0 ≡ Some s →
         IfOk result (λ w. StandsFor w (no_calls tables.now system.0 s)) }
     ensures quiet { (t : ℕ) → IfOk result (λ w. IsQuiet w t) }
@@ -102,6 +103,7 @@ pub(crate) fn build(
         system_id: row.id,
         partition: row.partition,
         clock: 0,
+        is_idle: false,
         lines,
         places,
         agenda,

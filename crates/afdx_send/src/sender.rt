@@ -31,13 +31,13 @@ pub struct Sender {
 
 impl Model for Sender {
     ghost use Rattle.afdx_send.specs.declared.sender_state.SenderState.{SenderState};
-    ghost use Rattle.afdx_send.specs.Sender.{IsSenderSound};
+    ghost use Rattle.afdx_send.specs.Sender.{IsSenderSound, KnowsIdle};
 
     ghost Value = { SenderState };
 
     ghost view = { λ s. s.state };
 
-    ghost invariant = { λ s. IsSenderSound s.state };
+    ghost invariant = { λ s. IsSenderSound s.state × KnowsIdle s.state };
 }
 
 impl Sender {

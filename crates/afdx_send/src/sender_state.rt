@@ -20,12 +20,18 @@ use afdx_port::laws::{due_is_next, one_schedule, taken_are_on_schedule};
 use afdx_port::{Left, Port};
 use std::alloc::AllocError;
 
+/// By then each message of a list has been emitted: the end of the drain, in ns.
+const DRAIN_END: u64 = 1_200_000_000_000_000;
+
 /// What a sender works with.
 pub(crate) struct SenderState {
     pub(crate) system_id: u16,
     pub(crate) partition: u8,
     /// The last time used.
     pub(crate) clock: u64,
+    /// Nothing leaves by the last time used that isn't emitted, and no release before it is left;
+    /// and that is before the end of the drain. Where it is `false`, that needn't be so.
+    pub(crate) is_idle: bool,
     /// The system's links, in the order of the tables.
     pub(crate) lines: Vec<SystemLink>,
     /// By identifier, the place of its link.
@@ -48,6 +54,7 @@ impl Drop for SenderState {
             system_id,
             partition,
             clock,
+            is_idle,
             lines,
             places,
             agenda,
@@ -72,7 +79,7 @@ impl SenderState {
     ghost use Rattle.afdx_send.specs.Regulator.{sub_count, submission_of, next_time_of};
     ghost use Rattle.afdx_send.specs.Sender.{SenderHistory, at, with_submission, submission, sending_of};
     ghost use Rattle.afdx_send.specs.Sender.{IsPlaceOf, IsTaken, IsRefused, IsSenderSound};
-    ghost use Rattle.afdx_send.specs.Sender.{IsQuiet, IsIdle, StandsFor, AreAllEmitted};
+    ghost use Rattle.afdx_send.specs.Sender.{IsQuiet, IsIdle, KnowsIdle, StandsFor, AreAllEmitted};
     ghost use Rattle.afdx_send.specs.Sender.{nexts_of, messages_held, frames_held, ready_count};
     ghost use Rattle.afdx_send.specs.Sender.{HoldsMore, HoldsSame, last_time};
 
@@ -167,8 +174,9 @@ impl SenderState {
         self.take(until);
     }
 
-    /// Makes ready what leaves the port next, if it leaves by this time.
-    fn prepare(&mut self, until: u64)
+    /// The last time used is this one, and what leaves the port next is ready, if it leaves by
+    /// then.
+    fn move_to(&mut self, until: u64)
         requires sound { IsSenderSound self.old }
         requires clock { self.old.clock ≤ until }
         ensures stands { (h : SenderHistory) →
@@ -183,6 +191,28 @@ impl SenderState {
         if self.ready.is_none() {
             self.advance();
         }
+    }
+
+    /// Makes ready what leaves the port next, if it leaves by this time. Where nothing is left to
+    /// be done until then, it is quick.
+    fn prepare(&mut self, until: u64)
+        requires sound { IsSenderSound self.old }
+        requires knows { KnowsIdle self.old }
+        requires clock { self.old.clock ≤ until }
+        ensures stands { (h : SenderHistory) →
+            StandsFor self.old h → StandsFor self.new (at h until) }
+        ensures knows { KnowsIdle self.new }
+        ensures idle { self.new.ready ≡ None → IsIdle self.new }
+        ensures done { (h : SenderHistory) → StandsFor self.old h → drain_end ≤ until →
+            self.new.ready ≡ None → AreAllEmitted h }
+        ensures clock { self.new.clock ≡ until }
+        ensures held { frames_held self.new ≡ frames_held self.old }
+    {
+        if self.is_idle && self.clock == until {
+            return;
+        }
+        self.move_to(until);
+        self.is_idle = self.ready.is_none() && until < DRAIN_END;
     }
 
     /// The two frames of a message that has left the port, in the place of what two vectors hold.
@@ -225,8 +255,10 @@ impl SenderState {
 
     pub(crate) fn emit(&mut self, until: u64) -> Result<Option<Emission>, AllocError>
         requires sound { IsSenderSound self.old }
+        requires knows { KnowsIdle self.old }
         requires clock { self.old.clock ≤ until }
         ensures sound { IsSenderSound self.new }
+        ensures knows { KnowsIdle self.new }
         ensures emits { Emits self.old self.new until result }
     {
         // Three laws, for the proof: what a port gives is on its schedule, and what is due is next
@@ -330,10 +362,12 @@ impl SenderState {
         payload: &[u8],
     ) -> Result<(), SendFault>
         requires sound { IsSenderSound self.old }
+        requires knows { KnowsIdle self.old }
         requires clock { self.old.clock ≤ time }
         requires limit { time ≤ latest_listed }
         requires quiet { IsQuiet self.old time }
         ensures sound { IsSenderSound self.new }
+        ensures knows { KnowsIdle self.new }
         ensures submits { Submits self.old self.new time vl.0 sub udp payload.now result }
     {
         // Two laws, for the proof: what a port gives is on its schedule, and what is due is next on

@@ -4,6 +4,7 @@ pub mod TermLemmas
 pub mod FollowedLemmas
 pub mod CountingLemmas
 pub mod OrderLemmas
+pub mod AwaitedLemmas
 pub mod LineLemmas
 pub mod StandingLemmas
 pub mod SettlingLemmas
@@ -21,3 +22,6 @@ pub mod MemberLemmas
 pub mod OneLemmas
 pub mod SenderRowLemmas
 pub mod QuietLemmas
+pub mod ShortLemmas
+pub mod RightSenderLemmas
+pub mod RightExampleLemmas

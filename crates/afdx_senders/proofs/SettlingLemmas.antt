@@ -14,9 +14,9 @@ use Rattle.afdx_lawful.specs.Partners.{Waiting}
 use Rattle.afdx_lawful.specs.Sources.{Source}
 use Rattle.afdx_senders.specs.Followed.{ByPlace, Followed, due_at, put_at, told_next}
 use Rattle.afdx_senders.specs.Lines.{AddsLines, Line, line_of, lines_single}
-use Rattle.afdx_senders.specs.Order.{AreNotBefore, IsBefore, is_before, rank_of}
+use Rattle.afdx_senders.specs.Order.{AreNotBefore, IsBefore, is_moment_before, rank_of}
 use Rattle.afdx_senders.specs.Settling.{AreSources, AreSteps, IsEnd, IsSourceOf, IsStep, Step, TakesOf, after_steps, lines_told}
-use Rattle.afdx_senders.specs.Standing.{SendersStand, awaited}
+use Rattle.afdx_senders.specs.Standing.{SendersStand}
 use Rattle.afdx_senders.specs.declared.sender_line.SenderLine.{SenderLine}
 use Rattle.afdx_senders.specs.declared.senders.Senders.{Senders}
 use Rattle.afdx_senders.proofs.LineLemmas.{adds_none}
@@ -60,7 +60,7 @@ module _ (t : Rows) (until : ℕ) where
 
 -- when the recordings end is known of a frame that is due
 pub known_by : (s : Source) (y : Waiting) (end before : Option ℕ) (until place m : ℕ) → s.until ≡ until →
-    IsEnd end before until → told_at s y ≡ m → is_before before (awaited m place) ≡ true → IsKnownBy s end y
+    IsEnd end before until → told_at s y ≡ m → is_moment_before before m ≡ true → IsKnownBy s end y
 known_by s y (Some e) before until place m ends is at due = ends ∙ is
 known_by s y None (Some time) until place m ends is at due =
     let less : m < time = ltb-true m time due in omega (arith, ends, is, at, less)

@@ -5,8 +5,7 @@ use Rattle.std.proofs.lemmas.List.Sorted.{Contains-permutation}
 use Rattle.std.proofs.lemmas.Map.Made.{Contains-tail}
 use Rattle.std.specs.List.Sorted.{IsPermutation}
 use Rattle.std.specs.List.{Contains}
-use Rattle.afdx_senders.specs.Order.{is_before}
-use Rattle.std.specs.Prelude.{nat_eq, nat_lt, if◌then◌else◌, Option, Some, None, ◌⊎◌, Result, Ok, Err, OnOk}
+use Rattle.std.specs.Prelude.{nat_eq, if◌then◌else◌, Option, Some, None, ◌⊎◌, Result, Ok, Err, OnOk}
 use Rattle.afdx_lawful.specs.Courses.{AllTold, Course, Unpaired, over, waited_of, waited_on, at_first, next_told, oldest, sooner, still_waiting}
 use Rattle.afdx_lawful.specs.Judged.{waiting_of}
 use Rattle.afdx_lawful.specs.Partners.{waiting}
@@ -15,11 +14,11 @@ use Rattle.afdx_frame.specs.declared.link.Side.TheVariants.{A, B}
 use Rattle.std.proofs.Math.Seq.{drop-length}
 use Rattle.std.proofs.lemmas.List.{length-map}
 use Rattle.afdx_lawful.specs.Sources.{Source}
+use Rattle.afdx_senders.specs.Awaited.{AwaitsToo, awaited}
 use Rattle.afdx_senders.specs.Followed.{due_of, AreFollowed, ByPlace, Followed, MayCome, came_next, due_at, put_at}
 use Rattle.afdx_senders.specs.Lines.{MayComeThere, came_there}
-use Rattle.afdx_senders.specs.Standing.{AwaitsToo, awaited}
+use Rattle.afdx_senders.specs.declared.agenda.DueSource.{DueSource}
 use Rattle.afdx_senders.specs.declared.followed.FollowedSources.{FollowedSources}
-use Rattle.afdx_senders.specs.declared.sender_line.SenderLine.{SenderLine}
 use Rattle.afdx_senders.specs.declared.site_frame.SiteFrame.{SiteFrame}
 
 pub on_ok : {X E : Type 0} {P Q : Type 0} → (P → Q) → (r : Result X E) → OnOk r P → OnOk r Q
@@ -27,15 +26,15 @@ on_ok f (Ok x) p = f p
 on_ok f (Err e) p = tt
 
 -- what is due of each source is awaited
-abbrev pub AllAwaited : ByPlace → List SenderLine → Type 0
+abbrev pub AllAwaited : ByPlace → List DueSource → Type 0
 AllAwaited at agenda = (place m : ℕ) → due_at (at place) ≡ Some m → Contains agenda (awaited m place)
 
 -- but that of the source at a place
-abbrev pub AwaitedBut : ℕ → ByPlace → List SenderLine → Type 0
+abbrev pub AwaitedBut : ℕ → ByPlace → List DueSource → Type 0
 AwaitedBut but at agenda = (place m : ℕ) → nat_eq place but ≡ false → due_at (at place) ≡ Some m →
     Contains agenda (awaited m place)
 
-module _ (at next : ByPlace) (place : ℕ) (before after : Option ℕ) (old new : List SenderLine)
+module _ (at next : ByPlace) (place : ℕ) (before after : Option ℕ) (old new : List DueSource)
     (others : (k : ℕ) → nat_eq k place ≡ false → next k ≡ at k)
     (held : (m : ℕ) → before ≡ Some m → Contains old (awaited m place))
     (is : after ≡ due_at (next place)) (too : AwaitsToo place before after old new)
@@ -81,7 +80,7 @@ none_first s = by s.is_paired
     by true = refl
     by false = refl
 
-pub put_awaited : (at : ByPlace) (place : ℕ) (f : Followed) (agenda : List SenderLine) → due_of f ≡ None →
+pub put_awaited : (at : ByPlace) (place : ℕ) (f : Followed) (agenda : List DueSource) → due_of f ≡ None →
     AllAwaited at agenda → AllAwaited (put_at place f at) agenda
 put_awaited at place f agenda none all k m = by (nat_eq k place)
   where
@@ -111,23 +110,19 @@ put_others at place f k other = ap (λ (b : Bool). if b then Some f else at k) o
 
 -- ---- one is taken off the agenda
 
-module _ (at : ByPlace) (e : SenderLine) (old rest : List SenderLine) (moved : IsPermutation old (e ∷ rest))
+module _ (at : ByPlace) (e : DueSource) (old rest : List DueSource) (moved : IsPermutation old (e ∷ rest))
     (all : AllAwaited at old) where
   still_awaited : (k m : ℕ) → (e ≡ awaited m k → ⊥) → due_at (at k) ≡ Some m → Contains rest (awaited m k)
   still_awaited k m other due =
       Contains-tail e rest (awaited m k) other (Contains-permutation old (e ∷ rest) (awaited m k) moved (all k m due))
 
   -- another time is due there
-  pub stale_awaited : (due_at (at e.line) ≡ Some e.moment → ⊥) → AllAwaited at rest
+  pub stale_awaited : (due_at (at e.place) ≡ Some e.moment → ⊥) → AllAwaited at rest
   stale_awaited stale k m due =
-      still_awaited k m (λ is. stale (subst (λ (x : SenderLine). due_at (at x.line) ≡ Some x.moment) (sym is) due)) due
+      still_awaited k m (λ is. stale (subst (λ (x : DueSource). due_at (at x.place) ≡ Some x.moment) (sym is) due)) due
 
   -- all others still are
-  pub others_awaited : AwaitedBut e.line at rest
+  pub others_awaited : AwaitedBut e.place at rest
   others_awaited k m other due =
       still_awaited k m
-      (λ is. true≢false (sym (eq-eqb k e.line (ap (λ (x : SenderLine). x.line) (sym is))) ∙ other)) due
-
-pub same_before : (before : Option ℕ) (x y : SenderLine) → x.moment ≡ y.moment → is_before before x ≡ is_before before y
-same_before None x y same = refl
-same_before (Some time) x y same = ap (λ m. nat_lt m time) same
+      (λ is. true≢false (sym (eq-eqb k e.place (ap (λ (x : DueSource). x.place) (sym is))) ∙ other)) due

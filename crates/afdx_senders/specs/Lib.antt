@@ -8,9 +8,12 @@ pub mod Order
 pub mod Lines
 pub mod AllLines
 pub mod Telling
+pub mod Awaited
 pub mod Standing
 pub mod Settling
 pub mod SenderCounts
 pub mod History
 pub mod SenderLaws
+pub mod RightSenders
+pub mod RightExample
 pub mod SenderRows

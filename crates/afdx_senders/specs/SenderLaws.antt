@@ -1,13 +1,15 @@
 -- Laws over the lines of the senders of a switch. Lists have the newest first.
-use Rattle.std.specs.Prelude.{◌≡◌, ◌↔◌, ℕ, ◌<◌, Option, Some, None, List, [], ◌∷◌, ◌++◌, filter}
+use Rattle.std.specs.Prelude.{◌≡◌, ◌↔◌, ℕ, ◌<◌, ◌≤◌, true, nat_le, Option, Some, None, List, [], ◌∷◌, ◌++◌, filter, length}
 use Rattle.std.specs.List.{All}
 use Rattle.afdx_conform.specs.Levels.{parts}
+use Rattle.afdx_frame.specs.Lengths.{greatest_frame}
 use Rattle.afdx_lawful.specs.Judged.{judged_source}
 use Rattle.afdx_lawful.specs.Sources.{Came, Source}
 use Rattle.afdx_police.specs.Arrival.{Arrival}
 use Rattle.afdx_senders.specs.AllLines.{all_lines, is_early}
 use Rattle.afdx_senders.specs.History.{HaveTold}
-use Rattle.afdx_senders.specs.Lines.{Line}
+use Rattle.afdx_senders.specs.Lines.{FoundBy, Line, OfNone, OfSource}
+use Rattle.afdx_senders.specs.SenderCounts.{alone_in}
 use Rattle.afdx_senders.specs.Setups.{Setup, ending, own_frames, source_at, whose}
 use Rattle.afdx_senders.specs.Strays.{stray_of}
 use Rattle.afdx_senders.specs.Telling.{AreToldBefore, AreToldEarly, ComeFrom, HaveBegun, IsEndSince}
@@ -81,3 +83,43 @@ pub record AreQuiet (z : Setup) (xs : List Arrival) : Type 0 where
 -- there is no line exactly where that is so
 abbrev pub NoLineIsQuiet : Type 0
 NoLineIsQuiet = (z : Setup) (xs : List Arrival) → (all_lines z xs ≡ []) ↔ AreQuiet z xs
+
+-- where no more frames come and nothing was told, there is none
+abbrev pub NothingToldIsNoLine : Type 0
+NothingToldIsNoLine =
+    (z : Setup) (xs : List Arrival) → AreToldBefore z None xs [] → all_lines z xs ≡ []
+
+-- something is found of the frame of a line
+abbrev pub IsFound : FoundBy → Type 0
+IsFound (OfSource []) = ⊥
+IsFound (OfSource (f ∷ more)) = Unit {0}
+IsFound (OfNone stray) = Unit {0}
+
+abbrev pub EachLineIsFound : Type 0
+EachLineIsFound =
+    (z : Setup) (before : Option ℕ) (xs : List Arrival) (told : List Line) →
+    AreToldBefore z before xs told →
+    All (λ x. IsFound x.found) told
+
+-- of fewer frames there is no line, either, and each sender that is judged has the same frames
+pub record AreSameSent (z : Setup) (xs fewer : List Arrival) : Type 0 where
+  pub no_line : all_lines z fewer ≡ []
+  pub own : (place : ℕ) (s : Source) → source_at z place ≡ Some s →
+      own_frames z place fewer ≡ own_frames z place xs
+
+-- Where there is no line, no sender that is judged sent a frame that is longer than any may be. So
+-- longer ones may be passed over.
+abbrev pub LongerArePassedOver : Type 0
+LongerArePassedOver =
+    (z : Setup) (longest : ℕ) (xs : List Arrival) →
+    greatest_frame ≤ longest →
+    all_lines z xs ≡ [] →
+    AreSameSent z xs (filter (λ x. nat_le (length x.bytes) longest) xs)
+
+-- where no link is alone, each sender that is judged was recorded on both sides
+abbrev pub NoneAloneIsPaired : Type 0
+NoneAloneIsPaired =
+    (z : Setup) (place : ℕ) (s : Source) →
+    alone_in z ≡ 0 →
+    source_at z place ≡ Some s →
+    s.is_paired ≡ true

@@ -10,13 +10,13 @@ use std::alloc::{AllocError, Global};
 use std::collections::BinaryHeap;
 use std::marker::Model;
 
-/// Whether a line's moment lies before a time; without one, always.
-fn is_before(line: &SenderLine, before: Option<u64>) -> bool
-    ensures { result ≡ spec.is_before before line.now }
+/// Whether a moment lies before a time; without one, always.
+pub(crate) fn is_before(moment: u64, before: Option<u64>) -> bool
+    ensures { result ≡ spec.is_moment_before before moment }
 {
     match before {
         None => true,
-        Some(time) => line.moment < time,
+        Some(time) => moment < time,
     }
 }
 
@@ -74,7 +74,7 @@ impl FoundLines {
         let Some(first) = self.heap.peek() else {
             return None;
         };
-        if is_before(first, before) {
+        if is_before(first.moment, before) {
             self.heap.pop()
         } else {
             None

@@ -9,7 +9,6 @@ ghost use Rattle.afdx_senders.specs.Lines.{told_line};
 ghost use Rattle.afdx_senders.specs.Sites.{among_of, came_at, recorded_in, source_of};
 ghost use Rattle.afdx_senders.specs.Standing.{SendersStand};
 
-use crate::agenda::put_due;
 use crate::found_lines::FoundLines;
 use crate::sender_line::{SenderLine, ToldOf};
 use crate::senders::Senders;
@@ -67,7 +66,7 @@ impl Senders<'_> {
         let heard = self.kept.came(place, &mut self.spare, x)?;
         put_heard(&mut self.found, x, heard)?;
         let after = self.kept.due(place);
-        put_due(&mut self.agenda, place, before, after)
+        self.agenda.put_due(place, before, after)
     }
 
     /// A frame came that is of no source.

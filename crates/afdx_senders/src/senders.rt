@@ -17,6 +17,7 @@ ghost use Rattle.afdx_senders.specs.Sites.{came_at, recorded_in};
 ghost use Rattle.afdx_senders.specs.Telling.{HaveBegun};
 ghost use Rattle.afdx_senders.specs.Terms.{Asked as What, terms_at};
 
+use crate::agenda::SourceAgenda;
 use crate::followed::FollowedSources;
 use crate::found_lines::FoundLines;
 use crate::recorded_ports::RecordedPorts;
@@ -36,7 +37,7 @@ pub struct Senders<'a> {
     pub(crate) spare: Spare,
     pub(crate) kept: FollowedSources,
     pub(crate) found: FoundLines,
-    pub(crate) agenda: FoundLines,
+    pub(crate) agenda: SourceAgenda,
 }
 
 impl<'a> Senders<'a> {
@@ -63,7 +64,7 @@ impl<'a> Senders<'a> {
             spare: Spare::new(alloc),
             kept,
             found: FoundLines::new(alloc),
-            agenda: FoundLines::new(alloc),
+            agenda: SourceAgenda::new(alloc),
         })
     }
 

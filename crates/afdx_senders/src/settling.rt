@@ -14,7 +14,7 @@ ghost use Rattle.afdx_senders.specs.Order.{AreInType, AreNotBefore, IsBefore, ra
 ghost use Rattle.afdx_senders.specs.Settling.{AreSources, IsEnd, Settled, Step, lines_told};
 ghost use Rattle.afdx_senders.specs.Standing.{IsDue, IsNothingDue, SendersStand, SendersStandBut};
 
-use crate::agenda::{is_moment, put_due};
+use crate::agenda::is_moment;
 use crate::found_lines::FoundLines;
 use crate::sender_line::{SenderLine, ToldOf};
 use crate::senders::Senders;
@@ -52,9 +52,8 @@ impl Senders<'_> {
         ensures sites { self.new.sites ≡ self.old.sites }
     {
         while let Some(entry) = self.agenda.take_before(before) {
-            let place = entry.line as usize;
-            if is_moment(self.kept.due(place), entry.moment) {
-                return Some(place);
+            if is_moment(self.kept.due(entry.place), entry.moment) {
+                return Some(entry.place);
             }
         }
         None
@@ -108,7 +107,7 @@ impl Senders<'_> {
         };
         put_single(&mut self.found, port, told)?;
         let after = self.kept.due(place);
-        put_due(&mut self.agenda, place, None, after)?;
+        self.agenda.put_due(place, None, after)?;
         Ok(true)
     }
 

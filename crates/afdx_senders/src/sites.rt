@@ -1,6 +1,8 @@
 //! Whose a frame is that came at a port of a switch.
 
-ghost use Rattle.std.specs.Prelude.{◌≡◌, ◌<◌, IfOk, IfSome, OnOk, Some, length, option_map, slice_get};
+ghost use Rattle.std.specs.Prelude.{◌≡◌, ◌<◌, ℕ, IfOk, IfSome, IsTrue, OnOk, Some};
+ghost use Rattle.std.specs.Prelude.{is_some, length, option_map, slice_get, true};
+ghost use Rattle.afdx_config.specs.Reading.{listener_at};
 ghost use Rattle.afdx_config.specs.Rows.{LinkRow};
 ghost use Rattle.afdx_senders.specs.Sites as spec;
 ghost use Rattle.afdx_senders.specs.Sites.{among_of, came_at, recorded_in};
@@ -8,8 +10,9 @@ ghost use Rattle.afdx_senders.specs.Sites.{among_of, came_at, recorded_in};
 use crate::link_places::LinkPlaces;
 use crate::recorded_ports::RecordedPorts;
 use crate::site_frame::SiteFrame;
+use afdx_config::laws::systems_listen;
 use afdx_config::{Switches, Tables};
-use afdx_frame::{Side, VlId};
+use afdx_frame::VlId;
 use std::alloc::{AllocError, Global};
 
 /// Whose a frame is that came at a port of a switch.
@@ -39,9 +42,11 @@ pub struct SenderSites<'a> {
 #[tactic(auto, unfolding(crate::specs::Sites::is_sent_at))]
 fn is_sent_at(tables: &Tables, place: usize, port: u8) -> bool
     requires { place < length tables.now.links }
-    ensures { (l : LinkRow) → slice_get tables.now.links place ≡ Some l →
+    ensures sent { (l : LinkRow) → slice_get tables.now.links place ≡ Some l →
         result ≡ spec.is_sent_at tables.now l port }
+    ensures heard { IsTrue result → is_some (listener_at tables.now port) ≡ true }
 {
+    systems_listen();
     let from = tables.link(place).from;
     tables.is_own(from) && tables.system(from).port == port
 }
@@ -82,17 +87,11 @@ impl<'a> SenderSites<'a> {
         })
     }
 
-    /// Whether a system stands at this port of a side, and the port was recorded.
-    fn is_site(&self, side: Side, port: u8) -> bool
-        ensures { result ≡
-            spec.is_site self.now.tables.now (recorded_in self.now.recorded) side port }
-    {
-        self.recorded.has(side, port) && self.tables.listener_at(port).is_some()
-    }
-
     /// Whose a frame of this link is that came at a port where a system stands.
     fn sent_by(&self, vl: VlId, port: u8) -> SourceOf
-        ensures { result ≡ spec.sent_by self.now.tables.now (among_of self.now) port vl }
+        ensures whose { result ≡ spec.sent_by self.now.tables.now (among_of self.now) port vl }
+        ensures heard { (place : ℕ) → result ≡ SourceOf.Source place →
+            is_some (listener_at self.now.tables.now port) ≡ true }
     {
         match self.places.of(self.tables, vl) {
             Some(place) => {
@@ -106,6 +105,19 @@ impl<'a> SenderSites<'a> {
         }
     }
 
+    /// Whether a system stands at this port, where a frame is so. The source of a link stands
+    /// there.
+    fn is_heard(&self, whose: SourceOf, port: u8) -> bool
+        ensures { ((place : ℕ) → whose ≡ SourceOf.Source place →
+            is_some (listener_at self.now.tables.now port) ≡ true) →
+            result ≡ is_some (listener_at self.now.tables.now port) }
+    {
+        if let SourceOf::Source(_) = whose {
+            return true;
+        }
+        self.tables.listener_at(port).is_some()
+    }
+
     /// Whose a frame is.
     pub fn source_of(&self, x: &SiteFrame<'_>) -> SourceOf
         ensures { result ≡ spec.source_of self.now.tables.now (among_of self.now)
@@ -114,9 +126,14 @@ impl<'a> SenderSites<'a> {
         let Some(vl) = x.vl else {
             return SourceOf::Nobody;
         };
-        if !self.is_site(x.side, x.port) {
+        if !self.recorded.has(x.side, x.port) {
             return SourceOf::Nobody;
         }
-        self.sent_by(vl, x.port)
+        let whose = self.sent_by(vl, x.port);
+        if self.is_heard(whose, x.port) {
+            whose
+        } else {
+            SourceOf::Nobody
+        }
     }
 }

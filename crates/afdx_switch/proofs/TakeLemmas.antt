@@ -77,6 +77,17 @@ module _ (t : Rows) (side : Side) (w : SwitchState) (h : SwitchHistory) (st : St
     | inr past ↦ absurd (omega (arith, below, past.0, st.port_count))
   ]
 
+  -- time passes
+  pub stands-later : (time : ℕ) → StandsFor t side (record w { clock = time }) (switch.at h time)
+  stands-later time = record {
+    time = refl;
+    line_count = st.line_count;
+    lines = st.lines;
+    places = st.places;
+    port_count = st.port_count;
+    ports = st.ports;
+  }
+
   -- where none gives a turn by a time, each next turn is given after it
   pub quiet-next : (time : ℕ) → All (λ p. held.IsQuiet facts p time) w.ports.items
       → (port : ℕ) (s : Turn HeldFrame) → 1 ≤ port → port ≤ 24 → IsNextAt t side h port s
@@ -185,17 +196,6 @@ module _ (t : Rows) (side : Side) (w : SwitchState) (h : SwitchHistory) (st : St
               subst (λ k. queue.StandsFor facts new (calls_at t side (w.first + 1) later k)) (sym mine.clock) mine in
               subst (λ k. queue.StandsFor facts q (calls_at t side (k + 1) later q.clock)) (sym same)
               (subst (λ z. queue.StandsFor facts z (calls_at t side (w.first + 1) later z.clock)) (sym is) here)
-
-    -- it gave nothing by then
-    pub stands-waited : (until : ℕ) (new : PortState HeldFrame)
-        → ((calls : queue.PortHistory HeldFrame) → queue.StandsFor facts p calls
-        → queue.StandsFor facts new (queue.at calls until)) → (after : SwitchState) → after.clock ≡ until
-        → after.lines ≡ w.lines → after.places ≡ w.places → after.ports.items ≡ set w.ports.items w.first new →
-        StandsFor t side after (switch.at h until)
-    stands-waited until new waited after clock lines places ports =
-        stands-set h.taken until new
-        (waited (calls_at t side (w.first + 1) h p.clock) (st.ports w.first p at))
-        (λ i q other at_q. st.ports i q at_q) after clock lines places ports
 
     -- it gave its turn
     module _ (until : ℕ) (new : PortState HeldFrame) (left : Left HeldFrame)

@@ -1,6 +1,6 @@
 //! One switch, as its callers see it.
 
-ghost use Rattle.std.specs.Prelude.{◌≡◌, ℕ, ◌+◌, ◌≤◌, ◌++◌, length, IfOk, OnOk, None, true};
+ghost use Rattle.std.specs.Prelude.{◌≡◌, ℕ, ◌+◌, ◌≤◌, ◌++◌, length, IfOk, OnOk, Some, None, true};
 ghost use Rattle.afdx_frame.specs.Lengths.{greatest_frame};
 ghost use Rattle.afdx_port.specs.Times.{latest_put};
 
@@ -30,9 +30,9 @@ fn append(bytes: &mut ArrayVec<u8, GREATEST_FRAME>, more: &[u8])
 /// A frame whose turn at an output port is over.
 #[derive(Drop)]
 pub struct Departure {
+    pub(crate) left: Left<Frame>,
     pub(crate) side: Side,
     pub(crate) port: u8,
-    pub(crate) left: Left<Frame>,
 }
 
 impl Departure {
@@ -46,7 +46,7 @@ impl Departure {
         ensures { result ≡ on_side side self }
     {
         let Departure { port, left, .. } = self;
-        Departure { side, port, left }
+        Departure { left, side, port }
     }
 
     /// The side of its switch. A switch by itself is on side A; those of a network say theirs.
@@ -261,6 +261,19 @@ impl Switch {
             self.store.keep(&departure.left.item);
         }
         taken
+    }
+
+    /// The next frame that leaves, or is dropped as too old, where it does by `until`: then
+    /// `take(until)` would give it.
+    #[inline(always)]
+    pub fn take_due(&mut self, until: u64) -> Departure
+        requires clock { last_time self.old ≤ until }
+        requires given { IsQuiet self.old until → ⊥ }
+        ensures { Takes self.old self.new until (Some result) }
+    {
+        let departure = self.state.take_due(until);
+        self.store.keep(&departure.left.item);
+        departure
     }
 
     /// Gives a departure back, of this switch or of another, once its frame was read: a frame that

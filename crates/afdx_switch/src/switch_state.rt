@@ -316,16 +316,32 @@ impl SwitchState {
         ensures takes { Takes self.old self.new until result }
         ensures sound { IsSwitchSound self.new }
     {
+        if self.ports[self.first].is_quiet(until) {
+            self.clock = until;
+            return None;
+        }
+        Some(self.take_due(until))
+    }
+
+    /// The next turn of all ports, where it is over by `until`.
+    #[inline(always)]
+    pub(crate) fn take_due(&mut self, until: u64) -> Departure
+        requires sound { IsSwitchSound self.old }
+        requires clock { last_time self.old ≤ until }
+        requires given { IsQuiet self.old until → ⊥ }
+        ensures takes { Takes self.old self.new until (Some result) }
+        ensures sound { IsSwitchSound self.new }
+    {
         self.clock = until;
         let place = self.first;
         let port = &mut self.ports[place];
-        let left = port.take(until)?;
+        let left = port.take_due(until);
         self.serving.renew(place, port);
         self.first = self.serving.first::<Frame>();
-        Some(Departure {
+        Departure {
+            left,
             side: Side::A,
             port: place as u8 + 1,
-            left,
-        })
+        }
     }
 }

@@ -5,6 +5,7 @@ pub mod SenderLines
 pub mod ConformLines
 pub mod OutLines
 pub mod Texts
+pub mod PutFaults
 pub mod Sinks
 pub mod Telling
 pub mod Outputs

@@ -15,6 +15,7 @@ mod offered;
 mod output;
 mod piece;
 mod place;
+mod put_fault;
 mod sender_lines;
 mod sender_words;
 mod sink;

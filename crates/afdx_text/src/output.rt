@@ -2,15 +2,17 @@
 
 ghost use Rattle.std.specs.Prelude.{◌≡◌, ◌≤◌, ◌+◌, [], Bool, OnOk, OnErr, IfOk, IfErr, false, true, is_err, nat_eq};
 ghost use Rattle.std.specs.Io.KnownBytes.{Appends, Keeps};
-ghost use Rattle.afdx_input_lines.specs.Calls.{AppendsFront, is_failed_write};
+ghost use Rattle.afdx_input_lines.specs.Calls.{AppendsFront};
 ghost use Rattle.afdx_input_lines.specs.Watching.{has_failed};
 ghost use Rattle.afdx_text.specs.Flushing.{HandsOn};
 ghost use Rattle.afdx_text.specs.OutLines.{line_text};
 ghost use Rattle.afdx_text.specs.Outputs.{written, held_bytes, room_of, is_at_once};
 ghost use Rattle.afdx_text.specs.Outputs.{inner_device, device_has_failed};
+ghost use Rattle.afdx_text.specs.PutFaults.{IsKept, is_unwritten};
 ghost use Rattle.afdx_text.specs.Sinks.{SinkKept};
 
 use crate::line::OutLine;
+use crate::put_fault::SinkFault;
 use crate::sink::Sink;
 use crate::text::Text;
 use crate::writing::hand_bytes;
@@ -63,19 +65,19 @@ impl<W: Write + Drop> Output<W> {
     }
 
     /// Hands all that is held to the device, which has not failed before.
-    fn hand_over(&mut self) -> Result<(), RunFault>
+    fn hand_over(&mut self) -> Result<(), SinkFault>
         requires { device_has_failed self.old ≡ false }
         ensures none_left { OnOk result (held_bytes self.new ≡ []) }
         ensures refused { OnErr result (has_failed self.new.device ≡ true) }
-        ensures failed { device_has_failed self.new ≡ is_failed_write result }
-        ensures fault { IfErr result (λ fault. fault ≡ RunFault.Write) }
+        ensures failed { device_has_failed self.new ≡ is_unwritten result }
+        ensures fault { IfErr result (λ fault. fault ≡ SinkFault.Write) }
         ensures bytes { Keeps (written W.contents self.old) (written W.contents self.new) }
         ensures at_once { is_at_once self.new ≡ is_at_once self.old }
     {
         let taken = hand_bytes(self.held.as_bytes(), &mut self.device);
         self.held.remove_front(taken);
         if self.device.failed() {
-            return Err(RunFault::Write);
+            return Err(SinkFault::Write);
         }
         Ok(())
     }
@@ -83,9 +85,9 @@ impl<W: Write + Drop> Output<W> {
     /// Makes room for so many more bytes: first all that is held is handed over.
     #[cold]
     #[inline(never)]
-    fn make_room(&mut self, more: usize) -> Result<(), RunFault>
+    fn make_room(&mut self, more: usize) -> Result<(), SinkFault>
         requires { device_has_failed self.old ≡ false }
-        ensures sink { SinkKept device_has_failed is_at_once self.old self.new result }
+        ensures kept { IsKept device_has_failed is_at_once self.old self.new result }
         ensures bytes { Keeps (written W.contents self.old) (written W.contents self.new) }
         ensures room { OnOk result (self.new.held.end + more ≤ self.new.held.room.len) }
     {
@@ -96,13 +98,13 @@ impl<W: Write + Drop> Output<W> {
 
     /// Puts a line, which is held.
     #[inline(always)]
-    fn hold(&mut self, line: &OutLine<'_>) -> Result<(), RunFault>
+    fn hold(&mut self, line: &OutLine<'_>) -> Result<(), SinkFault>
         requires { device_has_failed self.old ≡ false }
         ensures put { OnOk result (Appends (written W.contents self.old)
             (written W.contents self.new) (line_text line.now)) }
         ensures same { OnErr result
             (Keeps (written W.contents self.old) (written W.contents self.new)) }
-        ensures sink { SinkKept device_has_failed is_at_once self.old self.new result }
+        ensures kept { IsKept device_has_failed is_at_once self.old self.new result }
     {
         let most = line.room_wanted()?;
         if !self.held.has_room(most) {

@@ -63,7 +63,8 @@ def told_by(path: str) -> Told:
 def row_of(run: Run, told: Told, fault: str, status: int | None) -> Row:
     """A run's row of the table."""
     row: Row = {"switch": run.switch} if run.switch else {}
-    row |= {"list": shown(run.name), "verdict": told.verdict or None}
+    row |= {"list": shown(run.name), **(run.part.cells() if run.part else {})}
+    row["verdict"] = told.verdict or None
     row["findings"] = told.deviations if told.verdict else None
     row |= {key: told.counts.get(key) for key in COUNTS}
     return {**row, "status": status, "fault": fault or None}
@@ -82,6 +83,8 @@ def options_of(args: argparse.Namespace) -> list[str]:
     if others:
         raise Refused(f"--fail-on {others[0]} isn't a criterion with --conform")
     options = replace(conform_options(args, OF_REPLAYS), switch=None)
+    if args.slices > 1:  # each says its own times
+        options = replace(options, start=None, until=None)
     return [*options.words(), *options.of_recordings]
 
 
@@ -102,19 +105,24 @@ class Judgements(Kind):
 
     def words(self, run: Run) -> list[str]:
         switch = [f"--switch={run.switch}"] if run.switch else []
+        times = [" ".join(run.part.words())] if run.part else []
         places = [" ".join(run.places) or UNKNOWN] if self.taps else []
-        return [*switch, *self.options, *places, *self.taps]
+        return [*switch, *self.options, *times, *places, *self.taps]
 
     def command(self) -> str:
         past = FIRST + self.count() - (len(self.taps) + 1 if self.taps else 0)
-        words = " ".join(f"{{{place}}}" for place in range(FIRST, past))
-        places = ""
+        before, places, times = past, "", ""
+        if self.runs[0].part:
+            before -= 1
+            times = f"times={{{before}}}; "
+        words = " ".join(f"{{{place}}}" for place in range(FIRST, before))
         if self.taps:
             switch = f"{{{FIRST}}} " if self.runs[0].switch else ""
             table = f'-- "$config" {{{past + 2}}} "$list"'
             asked = f"places=$(env {{5}} {{{past + 1}}} --conform {switch}{table}) || exit"
             places = f'places={{{past}}}; if [ "$places" = {UNKNOWN} ]; then {asked}; fi; '
-        return f'{places}{{6}} conform $places {words} -- "$config" "$@"'
+        given = "$times $places" if times else "$places"
+        return f'{times}{places}{{6}} conform {given} {words} -- "$config" "$@"'
 
     def outcome_of(self, attempt: Attempt, machine: str) -> Outcome:
         run, status = self.runs[attempt.number - 1], attempt.status
@@ -151,8 +159,7 @@ class Judgements(Kind):
         return {**total, "status": worst(outcomes), "fault": fault}
 
     def suite_of(self, run: Run, outcome: Outcome) -> xml.Element:
-        name = f"{run.switch}: {run.name}" if run.switch else run.name
-        words, row = self.args.fail_on, outcome.row
+        name, words, row = run.title(), self.args.fail_on, outcome.row
         suite = suite_of(name, outcome.fault, outcome.totals, words, (), OF_SWITCHES)
         unlike = "" if row["verdict"] in (None, "conforms") else row["verdict"]
         unlike += f" {row['findings']}" if row["findings"] else ""

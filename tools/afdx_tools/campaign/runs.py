@@ -1,16 +1,25 @@
-"""The runs of a campaign: which files each is over, and which of several switches it judges."""
+"""The runs of a campaign: which files each is over, which of several switches it judges, and which
+slice of time."""
 from __future__ import annotations
 
 import argparse
 import os
 from typing import Callable, NamedTuple, Sequence
 
+from afdx_tools.campaign.slices import Slice, slices_of
 from afdx_tools.config import Config
+from afdx_tools.conformance.options import LEFT
 from afdx_tools.faults import Refused, shown
 from afdx_tools.inputs import as_file
 from afdx_tools.progress import Progress
 from afdx_tools.recordings.options import files_of
-from afdx_tools.recordings.tapped import OF_ALL_SWITCHES, found_by, want_switch, want_switches
+from afdx_tools.recordings.tapped import (
+    OF_ALL_SWITCHES,
+    asked_for,
+    found_by,
+    want_switch,
+    want_switches,
+)
 from afdx_tools.recordings.taps import read_rows
 
 Say = Callable[[str], None]
@@ -25,6 +34,17 @@ class Run(NamedTuple):
     files: tuple[str, ...]
     switch: str = ""
     places: tuple[str, ...] = ()
+    part: Slice | None = None
+
+    @property
+    def judged(self) -> str:
+        """What is judged of its files."""
+        return " ".join(["switch", self.switch, *(self.part.words() if self.part else [])])
+
+    def title(self) -> str:
+        """What it is called among others."""
+        name = f"{self.switch}: {self.name}" if self.switch else self.name
+        return f"{name}, slice {self.part}" if self.part else name
 
     @property
     def size(self) -> int:
@@ -68,6 +88,32 @@ def places_in(args: argparse.Namespace, path: str, say: Say) -> dict[str, tuple[
             say(shown(remark))
         for switch, _, word in (each.partition(" ") for each in all_found.words):
             found[switch] = (*found.get(switch, ()), word)
+    return found
+
+
+def places_at(
+    config: Config, args: argparse.Namespace, path: str, switch: str, say: Say
+) -> tuple[str, ...]:
+    """The words of places of a switch in its recording, for all slices of it; none where no table
+    says them, or there is no such file. Failed where it doesn't agree with the table."""
+    if args.taps is None or not os.path.isfile(path):
+        return ()
+    asked, progress = asked_for(config, switch or None), Progress("afdx-campaign")
+    found = found_by(args.taps, as_file(args.config), [path], [path], progress, asked)
+    for remark in found.remarks:
+        say(shown(remark))
+    return tuple(found.words)
+
+
+def in_slices(config: Config, args: argparse.Namespace, runs: Sequence[Run], say: Say) -> list[Run]:
+    """The runs, each with its slices of time in its place, if slices are wanted."""
+    if args.slices == 1:
+        return list(runs)
+    found, given = [], [f"{LEFT}{each}" for each in args.left]
+    for run in runs:
+        places = run.places or places_at(config, args, run.files[0], run.switch, say)
+        parts = slices_of(run.files, args.slices, args.begin, args.until, [*given, *places])
+        found += [run._replace(part=part, places=places) for part in parts]
     return found
 
 

@@ -31,7 +31,8 @@ from afdx_tools.campaign.machines import MOST_FAILED, PATIENCE, Machines
 from afdx_tools.campaign.outcomes import SPEAKER, Outcome, worst
 from afdx_tools.campaign.replaying import Replays
 from afdx_tools.campaign.rounds import Attempt, JobLog, next_round, play
-from afdx_tools.campaign.runs import judgements, replays
+from afdx_tools.campaign.runs import in_slices, judgements, replays
+from afdx_tools.campaign.slices import HIDDEN as HIDDEN_BY_SLICES, MOST
 from afdx_tools.command_line import parser_of, whole as whole_number
 from afdx_tools.config import read_config
 from afdx_tools.conformance.options import (
@@ -56,6 +57,9 @@ TOOL = "afdx-campaign"
 HIDDEN = (
     "with --from a switch may have let frames through that it had to drop for what came before, "
     "or dropped some for which it had room: that isn't found"
+)
+NO_SLICES = (
+    "a replay isn't split, since what a switch does with a frame depends on all that came before"
 )
 
 
@@ -138,15 +142,15 @@ def noted(path: str) -> list[bytes]:
 
 def note_lists(args: argparse.Namespace, kind: Kind) -> None:
     """Notes the lists in their order, the recordings of B or what left beside them, or the
-    configuration, and which switch is judged; with --resume the earlier ones have to stand first
-    again."""
+    configuration, and which switch and slice is judged; with --resume the earlier ones have to
+    stand first again."""
     for path in (os.path.join(args.out, name) for name in ("runs", "pages", "campaign.csv")):
         if not args.resume or os.path.islink(path):  # nothing is written where a link leads to
             clear(path)
     notes: dict[str, list[str]] = {"lists": [], "others": [], "judged": []}
     for run in kind.runs:
         first, other, *_ = (os.path.abspath(path) for path in (*run.files, args.config))
-        judged = f"switch {run.switch}" if args.conform else ""
+        judged = run.judged if args.conform else ""
         for each, note in zip(notes.values(), (first, other, judged)):
             each.append(note)
     for name, noted_now in notes.items():
@@ -243,6 +247,8 @@ def report(args: argparse.Namespace, kind: Kind, outcomes: Sequence[Outcome]) ->
     explain_all(faults, ["check", as_file(args.config)])
     if args.begin is not None:
         say(HIDDEN)
+    if args.slices > 1:
+        say(HIDDEN_BY_SLICES)
     missing = sum(not outcome.is_result for outcome in outcomes)
     if missing:
         say(f"{missing} of {len(outcomes)} runs have no result (--resume repeats them)")
@@ -252,8 +258,10 @@ def kind_of(args: argparse.Namespace) -> Kind:
     """What the runs are; Refused where a word is of the other kind."""
     if args.conform:
         config = read_config(as_file(args.config))
-        return Judgements(args, judgements(config, args, say))
+        return Judgements(args, in_slices(config, args, judgements(config, args, say), say))
     refuse_conform_options(args)
+    if args.slices > 1:
+        raise Refused(f"--slices is an option with --conform only: {NO_SLICES}")
     if args.begin is not None:
         raise Refused("--from is an option with --conform only")
     others = [word for word in args.fail_on if word not in CRITERIA]
@@ -310,6 +318,8 @@ def words() -> argparse.ArgumentParser:
     add_conform_words(parser)
     begin = "what came before this is passed over, with --conform"
     add("--from", dest="begin", type=whole_number(0, LATEST), metavar="NS", help=begin)
+    slices = "judge each recording in so many slices of time, a run each, with --conform (1)"
+    add("--slices", type=whole_number(1, MOST), default=1, metavar="N", help=slices)
     return parser
 
 

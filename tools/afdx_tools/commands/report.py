@@ -12,7 +12,7 @@ that of the program; with --fail-on it is 6 where the program's is 0 and a
 criterion isn't met. With --conform it reports on a recorded switch: it runs
 `afdx conform CONFIG RECORDING`, or `afdx conform CONFIG CAME LEFT` of two
 recordings or lists, and measures how long frames were inside; with --senders
-also `afdx conform --senders`, of what came.
+that judges the systems by what they sent, too, or these alone.
 """
 from __future__ import annotations
 

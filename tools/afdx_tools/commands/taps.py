@@ -4,6 +4,7 @@
     afdx-taps net.toml taps.csv A.pcapng B.pcapng
     afdx-taps --conform net.toml taps.csv run.pcapng
     afdx-taps --conform --senders net.toml taps.csv run.pcapng
+    afdx-taps --senders net.toml taps.csv run.pcapng
 
 TAPS is a table as spreadsheets write it (CSV). Its first row names the columns:
 
@@ -15,8 +16,8 @@ TAPS is a table as spreadsheets write it (CSV). Its first row names the columns:
 Prints the words --interface, with --conform also --left, one a line, if
 recording and table agree: each interface has its row, each row its interface,
 and the source addresses of the frames name the place. Else it says what
-doesn't, with status 3. With --senders the words are --senders and those of
-what came in, by which 'afdx conform' judges the systems that sent it.
+doesn't, with status 3. With --senders 'afdx conform' judges the systems by what
+they sent: beside the switch with --conform, alone without it, by what came in.
 """
 from __future__ import annotations
 
@@ -47,19 +48,19 @@ def say(lines: Iterable[str]) -> None:
 def words_of(args: argparse.Namespace) -> tuple[list[str], int]:
     """The words of the program, and the status."""
     recordings = [args.recording] if args.other is None else [args.recording, args.other]
-    if args.senders and not args.conform:
-        raise Refused("--senders is a word of afdx conform: it stands beside --conform")
-    if args.conform and len(recordings) > 1:
-        raise Refused("--conform takes one recording, of what came and of what left")
+    is_judged = args.conform or args.senders
+    if is_judged and len(recordings) > 1:
+        word = "--conform" if args.conform else "--senders"
+        raise Refused(f"{word} takes one recording, of what came and of what left")
     for path in recordings:
         if os.path.exists(path) and not os.path.isfile(path):
             raise Refused(f"{shown(path)} is no file, and it has to be read twice")
     try:
-        taps = read_taps(args.taps, args.switch if args.conform else None)
+        taps = read_taps(args.taps, args.switch if is_judged else None)
         config = read_config(args.config)
         asked = OF_REPLAYS
-        if args.conform:
-            asked = asked_for(config, args.switch, args.senders)
+        if is_judged:
+            asked = asked_for(config, args.switch, args.senders, args.conform)
         found = checked(config, taps, recordings, recordings, Progress(TOOL), asked)
     except WrongTaps as wrong:
         say(wrong.lines)
@@ -93,10 +94,12 @@ def parser() -> argparse.ArgumentParser:
     add("recording", metavar="RECORDING", help="pcap or pcapng, a file")
     add("other", metavar="RECORDING", nargs="?", help="the recording of B, beside that of A")
     add("--anyway", action="store_true", help="print the words also where they don't agree")
-    add("--conform", action="store_true", help="print the words of 'afdx conform'")
+    add("--conform", action="store_true",
+        help="print the words by which 'afdx conform' judges a switch")
     add("--senders", action="store_true",
-        help="with --conform: the words that judge the systems by what they sent")
-    add("--switch", metavar="NAME", help="which of several switches is judged, with --conform")
+        help="those by which it judges the systems by what they sent; with --conform both")
+    add("--switch", metavar="NAME",
+        help="which of several switches is judged, with --conform or --senders")
     return words
 
 

@@ -13,12 +13,18 @@ from afdx_tools.recordings.tapped import SENDERS
 
 SKIPPED = "skipped "  # how the line of what was skipped begins
 APART = "apart "  # and that of what the tables leave for a link's copies
+CONFORMS, DEVIATES, UNDECIDED = "conforms", "deviates", "undecided"
+STATUSES = {CONFORMS: 0, DEVIATES: 5, UNDECIDED: 3}
 FINDING = re.compile(r"(?P<word>[a-z]+) (?P<n>[0-9]+) (?P<side>[AB]) (?P<port>[0-9]+)"
                      r"(?: (?P<more>[a-z0-9-]+))?")  # fmt: skip
 
 
 class Line(Protocol):
-    """A line about a frame of what came, or of what left: its line there."""
+    """A line about a frame of what came, or of what left: its word, and its line there."""
+
+    @property
+    def word(self) -> str:
+        """The word with which it begins."""
 
     @property
     def number(self) -> int:
@@ -47,8 +53,8 @@ class Deviation(NamedTuple):
 
 
 class Amiss(NamedTuple):
-    """A line of `conform --senders` but the last, about a frame of CAME: `why` is its word, `by`
-    its ns, and `wanted` the sequence number that the frame should have had."""
+    """A line of `conform --senders` about a frame of CAME that a system sent: `why` is its word,
+    `by` its ns, and `wanted` the sequence number that the frame should have had."""
 
     word: str
     number: int
@@ -74,28 +80,43 @@ class Said(NamedTuple):
 
 @dataclass
 class Judged:
-    """What `conform` wrote: its lines; its last one as verdict and counts, which are missing where
-    a fault ended it; of each recording the counts of what was skipped; that fault, and the
-    status."""
+    """What `conform` wrote: its lines about what left a switch, and those about what systems sent;
+    its last one as verdict and counts, which are missing where a fault ended it; of each recording
+    the counts of what was skipped; that fault, and the status."""
 
     deviations: list[Deviation] = field(default_factory=list)
+    amiss: list[Amiss] = field(default_factory=list)
     verdict: str = ""
     counts: dict[str, int] = field(default_factory=dict)
     skipped: list[dict[str, int]] = field(default_factory=list)
     fault: str = ""
     status: int = 0
 
+    @property
+    def found(self) -> Sequence[Line]:
+        """All lines about frames, those of the switch first."""
+        return [*self.deviations, *self.amiss]
 
-@dataclass
-class Sent:
-    """What `conform --senders` wrote: its lines, its last one as verdict and counts, which are
-    missing where a fault ended it; that fault, and the status."""
+    def of_switch(self, is_exercised: bool = False) -> str:
+        """What the run would answer of the switch alone, by its lines and its last one; nothing
+        after a fault. With `--exercised` no stream may be idle."""
+        found = sum(kinds()[each.word].is_finding for each in self.deviations)
+        if not self.verdict or found:
+            return f"{DEVIATES} {found}" if self.verdict else ""
+        is_idle = is_exercised and self.counts["idle"] > 0
+        is_shown = self.counts["explained"] and not self.deviations  # these are `unsure`
+        return CONFORMS if is_shown and not is_idle else UNDECIDED
 
-    amiss: list[Amiss] = field(default_factory=list)
-    verdict: str = ""
-    counts: dict[str, int] = field(default_factory=dict)
-    fault: str = ""
-    status: int = 0
+    def of_senders(self) -> str:
+        """The same of what systems sent."""
+        if not self.verdict or self.amiss:
+            return f"{DEVIATES} {len(self.amiss)}" if self.verdict else ""
+        return CONFORMS if self.counts["sent"] else UNDECIDED
+
+
+def status_of(verdict: str) -> int:
+    """The status with which a run ends that has this verdict."""
+    return STATUSES[verdict.partition(" ")[0]]
 
 
 def deviation_of(line: str) -> Deviation | None:
@@ -136,26 +157,16 @@ def judged_of(lines: Iterable[str]) -> Judged:
     """Reads what `conform` wrote."""
     judged = Judged()
     for line in lines:
-        deviation = deviation_of(line)
+        deviation, amiss = deviation_of(line), amiss_of(line)
         if deviation:
             judged.deviations.append(deviation)
+        elif amiss:
+            judged.amiss.append(amiss)
         elif line.startswith(SKIPPED):
             judged.skipped.append(counts_of(line.split()[1:]))
         else:
             judged.verdict, judged.counts = last_of(line)
     return judged
-
-
-def sent_of(lines: Iterable[str]) -> Sent:
-    """Reads what `conform --senders` wrote."""
-    sent = Sent()
-    for line in lines:
-        amiss = amiss_of(line)
-        if amiss:
-            sent.amiss.append(amiss)
-        else:
-            sent.verdict, sent.counts = last_of(line)
-    return sent
 
 
 def help_of() -> str:
@@ -183,24 +194,17 @@ def said_by(words: Sequence[str]) -> Said:
 
 
 def judge(words: Sequence[str]) -> Judged:
-    """What the program says with these words of a switch; Failed where that isn't even a
-    verdict."""
-    if not help_of():
+    """What the program says with these words of a switch, of the systems that send to it, or of
+    both; Failed where that isn't even a verdict."""
+    known = help_of()
+    if not known:
         raise Failed("this program has no conform", 2)
+    if SENDERS in words and SENDERS not in known:
+        raise Failed("this program's conform judges no senders", 2)
     said = said_by(words)
     judged = judged_of(said.lines)
     judged.fault, judged.status = fault_of(said, judged.verdict), said.status
     return judged
-
-
-def judge_senders(words: Sequence[str]) -> Sent:
-    """What it says of the systems that sent what came."""
-    if SENDERS not in help_of():
-        raise Failed("this program's conform judges no senders", 2)
-    said = said_by([SENDERS, *words])
-    sent = sent_of(said.lines)
-    sent.fault, sent.status = fault_of(said, sent.verdict), said.status
-    return sent
 
 
 def fault_of(said: Said, verdict: str) -> str:

@@ -207,7 +207,8 @@ def account_words(totals: Row) -> str:
 
 def no_verdict(report: Row) -> str:
     """What findings are that stand before a fault."""
-    fault, count = report["fault"], len(report["deviations"])
+    fault = report["fault"]
+    count = len(report["deviations"]) + len(report.get("sender_deviations", ()))
     if not fault or not count:
         return ""
     words = "the finding before it is" if count == 1 else f"the {count:,} findings before it are"

@@ -9,11 +9,11 @@ from afdx_tools.command_line import whole
 from afdx_tools.conformance.recorded import Recorders
 from afdx_tools.faults import Refused
 from afdx_tools.recordings.options import recording_options
+from afdx_tools.recordings.tapped import SENDERS
 
 LATEST = 10**15
 MOST_APART = 100_000_000
 LEFT = "--left="  # how a word begins that says where frames left
-OF_SENDERS = ("slack", "drift")  # the amounts that say something of senders
 OTHER = "other"  # frames that name no link
 AMOUNTS = {
     "slack": (1_000_000, "NS", "by how many ns a stamp may be off, with --conform (0)"),
@@ -38,7 +38,7 @@ def add_sender_words(parser: argparse.ArgumentParser) -> None:
     """Teaches a parser --senders, and the option that goes with it."""
     add = parser.add_argument
     add("--senders", action="store_true",
-        help="also judge the systems by what they sent, with --conform: a second run of it")
+        help="also judge the systems by what they sent, with --conform")
     add("--apart", type=whole(0, MOST_APART), metavar="NS",
         help="by how many ns later a copy may be sent, with --senders (what the tables leave)")
 
@@ -70,7 +70,7 @@ def add_conform_words(parser: argparse.ArgumentParser) -> None:
 @dataclass(frozen=True)
 class Options:
     """The options of `afdx conform`: ns and millionths; None where they aren't given. With
-    `senders` the systems are judged, too, by a run of its own."""
+    `senders` the systems are judged, too."""
 
     slack: int | None = None
     between: int | None = None
@@ -90,25 +90,12 @@ class Options:
 
     def words(self) -> list[str]:
         """The words that say the same to the program; those of recordings stand apart."""
-        amounts = {name: getattr(self, name) for name in AMOUNTS} | {"from": self.start}
+        amounts = {name: getattr(self, name) for name in AMOUNTS}
+        amounts |= {"from": self.start, "apart": self.apart}
         words = [f"--{name}={amount}" for name, amount in amounts.items() if amount is not None]
-        return words + self.passing_over() + ["--exercised"] * self.exercised
-
-    def words_of_senders(self, later: int) -> list[str]:
-        """The words that judge the senders, by what came alone, whose first frame came so many ns
-        behind time 0."""
-        amounts = {name: getattr(self, name) for name in (*OF_SENDERS, "apart")}
-        times = {"from": self.start, "until": self.until}
-        amounts |= {name: None if time is None else max(0, time - later)
-                    for name, time in times.items()}  # fmt: skip
-        words = [f"--{name}={amount}" for name, amount in amounts.items() if amount is not None]
-        words += self.passing_over()
-        return words + [word for word in self.of_recordings if not word.startswith(LEFT)]
-
-    def passing_over(self) -> list[str]:
-        """The words for links that aren't judged, and for the switch that is."""
-        words = [f"--leave-out={OTHER if vl is None else vl}" for vl in self.left_out]
-        return words + ([] if self.switch is None else [f"--switch={self.switch}"])
+        words += [f"--leave-out={OTHER if vl is None else vl}" for vl in self.left_out]
+        words += [] if self.switch is None else [f"--switch={self.switch}"]
+        return words + ["--exercised"] * self.exercised + [SENDERS] * self.senders
 
     def tapped(self, words: Sequence[str]) -> Options:
         """The same, with the words of interfaces that a table of taps says."""

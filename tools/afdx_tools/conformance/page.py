@@ -3,8 +3,9 @@ from __future__ import annotations
 
 from html import escape
 
+from afdx_tools.conformance.judging import CONFORMS
 from afdx_tools.conformance.numbers import account_words, no_verdict
-from afdx_tools.conformance.together import answers_table, said_of_both
+from afdx_tools.conformance.together import answers_table, said_of_both, verdict_of_switch
 from afdx_tools.known import findings, of_senders
 from afdx_tools.report import figures
 from afdx_tools.report.findings import left_words
@@ -27,7 +28,7 @@ TABLES = {
     "groups": "Findings by link, port and kind: how many, and the first line that each names",
     "deviations": "Findings: the lines of the program, with the frame that each names",
     "streams": "Links, ports and sides: what came, left, was found, and latency as measured, in ns",
-    "premises": "What both answers together ask for, and what is so",
+    "premises": "What has to be so for each message to come once and in order, and what is so",
     "senders": "Links and the systems that send them: frames on both networks, and what was found",
     "sender_deviations": "Findings of senders: the lines of the program, with the frame of each",
     "options": "Options that the stamps ask for, at the least, and what was measured",
@@ -50,10 +51,10 @@ COUNTED = (
     "program found nothing may be paired with another one of equal bytes."
 )
 PROVED_OF_SENDERS = (
-    "Of senders their verdict, its counts and each line are lines of the proved program, too, in a "
-    "run of its own: `conforms` says that nothing was found of what systems sent. What both runs "
-    "say together is put beside one another by this report, and proves nothing more; how many "
-    "frames of each source have no line is counted by it."
+    "Of senders each line and the counts are of the same run of the proved program. How many lines "
+    "are of the switch and how many of senders, what is answered of each by that, how many frames "
+    "of each source have no line, and whether the premises of the law hold, is counted by this "
+    "report. The law is proved: both_show_once of PROMISES.md."
 )
 CARDS_OF_SENDERS = {"sent": "sent", "cut": "copies cut", "alone": "links alone"}
 CARDS = {
@@ -91,17 +92,23 @@ def answer(report: Row) -> str:
             words += f" Of {len(report['idle'])} that were no frame is explained: they were idle."
         parts.append(f'<span class="muted">{escape(words)}</span>')
     if "of_senders" in report:
-        parts.insert(1, badge_of_senders(report["of_senders"]))
+        parts[1:1] = badges_of_senders(report)
     if report["admission"] != "ok":
         parts.append(badge(f"not admitted: {report['admission']}", "bad"))
     return f'<p class="answers">{"".join(parts)}</p>{said_of_both(report)}'
 
 
-def badge_of_senders(told: Row) -> str:
-    """The verdict on the senders, or the fault that was in its way."""
-    if told["fault"]:
-        return badge(f"the run of senders ended with: {told['fault']}", "bad")
-    return badge(f"senders: {told['verdict']}", "bad" if told["status"] else "good")
+def badges_of_senders(report: Row) -> list[str]:
+    """What is answered of the switch and of the senders; of these alone also the fault that was in
+    its way."""
+    told, switch = report["of_senders"], verdict_of_switch(report)
+    named = {"switch": switch} if switch else {}
+    if told["verdict"]:
+        named["senders"] = told["verdict"]
+    elif not is_judged(report):
+        return [badge(f"the run ended with: {told['fault']}", "bad")]
+    return [badge(f"{name}: {verdict}", "good" if verdict == CONFORMS else "bad")
+            for name, verdict in named.items()]  # fmt: skip
 
 
 def picture(report: Row, most: int) -> str:

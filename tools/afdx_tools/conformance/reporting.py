@@ -7,14 +7,14 @@ import contextlib
 import json
 import os
 import sys
-from typing import Collection, Container, Iterable, Iterator, Mapping, NamedTuple, Sequence
+from typing import Collection, Iterable, Iterator, NamedTuple
 from xml.etree import ElementTree as xml
 
 from afdx_tools.columns import BEHIND_LINK, SWITCH, columns_of
 from afdx_tools.config import Config, read_config
 from afdx_tools.conformance.frames import Frame, frames_of_list
 from afdx_tools.conformance.grouping import groups, left_twice
-from afdx_tools.conformance.judging import Judged, Line, Sent, judge, judge_senders, least_apart
+from afdx_tools.conformance.judging import CONFORMS, Judged, judge, least_apart, status_of
 from afdx_tools.conformance.measuring import Measured, links_at, numbers_in
 from afdx_tools.conformance.numbers import Numbers, totals_of
 from afdx_tools.conformance.options import Options
@@ -24,7 +24,8 @@ from afdx_tools.conformance.recorded import Ends, Reading, Recorded, Taps
 from afdx_tools.conformance.senders import Senders, source_words
 from afdx_tools.conformance.senders import totals_of as totals_of_senders
 from afdx_tools.conformance.text import print_text
-from afdx_tools.conformance.together import of_senders_alone, premises, sentence, status_of
+from afdx_tools.conformance.together import of_senders_alone, premises, sentence
+from afdx_tools.conformance.together import verdict_of_switch
 from afdx_tools.explaining import explain
 from afdx_tools.faults import Failed, Refused, shown
 from afdx_tools.inputs import as_file, at_hand
@@ -94,39 +95,22 @@ def tapped(
     return options.tapped(found.words)
 
 
-class Every:
-    """All numbers of frames."""
-
-    def __contains__(self, number: object) -> bool:
-        return True
-
-
 def read(
-    inputs: Inputs, options: Options, judged: Judged, fault: str, config: Config
+    inputs: Inputs, options: Options, judged: Judged, config: Config
 ) -> tuple[Iterable[Frame], Iterable[Frame], Recorded]:
     """What came and what left, nothing where a fault ended the run; and what recordings say: after
-    a fault only how far back frames stand, if that is the fault. Which frames lines about senders
-    name may not be known yet."""
-    if fault and not (inputs.are_recorded and fault.startswith(TOO_FAR_BACK)):
+    a fault only how far back frames stand, if that is the fault."""
+    if judged.fault and not (inputs.are_recorded and judged.fault.startswith(TOO_FAR_BACK)):
         return (), (), Recorded()
     if not inputs.are_recorded:
         came, *left = map(frames_of_list, inputs.paths)
         return came, left[0] if left else (), Recorded()
     ends = Ends(config, links_at(config, options.switch)[0])
-    wanted: Mapping[bool, Container[int]] = numbers_in(judged.deviations)
-    wanted = {**wanted, False: Every()} if options.senders else wanted
-    reading = Reading(options.recorders, ends, wanted)
+    reading = Reading(options.recorders, ends, numbers_in(judged.found))
     recorded = reading.read(inputs.paths)
-    if fault:
+    if judged.fault:
         return (), (), Recorded(back=recorded.back)
     return recorded.came, recorded.left, recorded
-
-
-def sent_to(inputs: Inputs, options: Options, recorded: Recorded = Recorded()) -> Sent:
-    """What the program says of the systems, by what came alone. Where that isn't all that is
-    judged, times count from the first frame of all."""
-    later = recorded.came[0].time if recorded.came else 0
-    return judge_senders([*options.words_of_senders(later), inputs.config, inputs.paths[0]])
 
 
 def made_by(
@@ -166,38 +150,32 @@ def report_of(
     cover = Cover(args.cover) if args.cover else None
     called, checked = version(), check(program(), inputs.config)
     progress.report("judging")
-    judged, sent, are_alone = Judged(), None, inputs.are_of_senders(options)
-    if are_alone:
-        sent = sent_to(inputs, options)
-    else:
-        more = [*options.of_recordings, "--summary"] if inputs.are_recorded else []
-        judged = judge([*options.words(), *more, inputs.config, *inputs.paths])
+    more = [*options.of_recordings, "--summary"] if inputs.are_recorded else []
+    judged = judge([*options.words(), *more, inputs.config, *inputs.paths])
     progress.report("measuring")
     config = read_config(inputs.config)
-    fault = sent.fault if sent else judged.fault
-    came, left, recorded = read(inputs, options, judged, fault, config)
-    if options.senders and not sent:
-        sent = sent_to(inputs, options, recorded)
+    came, left, recorded = read(inputs, options, judged, config)
+    are_alone = inputs.are_of_senders(options)
     taps = Taps(left=frozenset()) if are_alone else Taps()
     taps = options.recorders.taps() if inputs.are_recorded else taps
-    found: Sequence[Line] = [*judged.deviations, *(sent.amiss if sent else ())]
-    measured = Measured(config, options, came, left, found, taps)
+    measured = Measured(config, options, came, left, judged.found, taps)
     stood = recorded.stood if inputs.are_recorded else None
     numbers = Numbers(config, checked, judged, measured, stood)
     streams, idle, deviations = numbers.streams(), numbers.idle(), numbers.deviations()
+    of_switch = Judged() if are_alone else judged
     return {
         "version": VERSION,
         "run": made_by(args, inputs, options, called, cover, recorded.time_0),
         "cover": cover.content if cover else None,
         "admission": checked.answer,
-        "fault": judged.fault,
-        "status": judged.status,
-        "verdict": judged.verdict,
-        "totals": totals_of(judged, streams, idle),
+        "fault": of_switch.fault,
+        "status": of_switch.status,
+        "verdict": of_switch.verdict,
+        "totals": totals_of(of_switch, streams, idle),
         "groups": groups(named_rows(deviations, naming), left_twice(measured)),
         "deviations": named_rows(deviations, naming),
         "streams": named_rows(streams, naming),
-        **(of_senders(inputs, options, judged, sent, numbers, naming) if sent else {}),
+        **(of_senders(inputs, options, numbers, naming) if options.senders else {}),
         **named_rows(Proposals(measured, recorded.resolution, recorded.back).tables(), naming),
         "idle": named_rows(idle, naming),
         **named_rows(of_recordings(inputs, judged, numbers) if inputs.are_recorded else {}, naming),
@@ -206,30 +184,29 @@ def report_of(
     }
 
 
-def of_senders(
-    inputs: Inputs, options: Options, judged: Judged, sent: Sent, numbers: Numbers, naming: Naming
-) -> Row:
+def of_senders(inputs: Inputs, options: Options, numbers: Numbers, naming: Naming) -> Row:
     """What a report has where senders were judged, too. After a fault nothing was counted."""
-    senders = Senders(numbers.measured, sent, numbers.stood)
-    sources = [] if judged.fault or sent.fault else senders.sources()
+    judged = numbers.judged
+    senders = Senders(numbers.measured, judged, numbers.stood)
+    verdict = judged.of_senders()
     told: Row = {
-        "verdict": sent.verdict,
-        "fault": sent.fault,
-        "status": sent.status,
-        "totals": totals_of_senders(sent),
+        "verdict": verdict,
+        "fault": judged.fault,
+        "status": judged.status if judged.fault else status_of(verdict),
+        "totals": totals_of_senders(judged),
     }
+    asked = []
     if inputs.are_of_senders(options):
-        both: Row = {"says": of_senders_alone(sent), "status_of_both": sent.status}
-        asked = []
+        told |= {"switch": "", "says": of_senders_alone(judged)}
     else:
         least = None if options.apart is None else least_apart(inputs.config)
-        asked = premises(numbers.checked.answer, judged, sent, options, least)
-        says = sentence(judged, sent, asked)
-        both = {"says": says, "status_of_both": status_of(judged, sent)}
+        asked = premises(numbers.checked.answer, judged, options, least)
+        told |= {"switch": judged.of_switch(options.exercised),
+                 "says": sentence(judged, options, asked)}  # fmt: skip
     return {
-        "of_senders": told | both,
+        "of_senders": {**told, "status_of_both": judged.status},
         **({"premises": [premise.row() for premise in asked]} if asked else {}),
-        "senders": named_rows(sources, naming),
+        "senders": named_rows([] if judged.fault else senders.sources(), naming),
         "sender_deviations": named_rows(senders.lines(), naming),
     }
 
@@ -274,18 +251,19 @@ def suite(name: str, report: Row) -> xml.Element:
     told: Row = report.get("of_senders", {})
     found = suite_of(name, report["fault"] or told.get("fault", ""), None, [])
     if is_judged(report):
-        unlike = report["verdict"] if report["status"] else ""
+        verdict = verdict_of_switch(report)
+        unlike = verdict if verdict != CONFORMS else ""
         why = [group["words"] for group in report["groups"]]
         add_conforms(found, name, not report["fault"], unlike, why)
     if told:
-        unlike = told["verdict"] if told["status"] else ""
+        unlike = told["verdict"] if told["verdict"] != CONFORMS else ""
         why = [source_words(row) for row in report["senders"] if row["amiss"]]
         add_conforms(found, name, not told["fault"], unlike, why, "senders")
     return found
 
 
 def report_conformance(tool: str, args: argparse.Namespace, options: Options) -> int:
-    """Makes the report; the status, which is that of the program, of two runs the worse one."""
+    """Makes the report; the status, which is that of the program."""
     progress = Progress(tool)
     naming = naming_beside(args.config)
     try:

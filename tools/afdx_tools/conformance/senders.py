@@ -5,7 +5,7 @@ from __future__ import annotations
 from collections import Counter, defaultdict
 from typing import Iterator, Mapping, NamedTuple, Sequence
 
-from afdx_tools.conformance.judging import Amiss, Sent
+from afdx_tools.conformance.judging import Amiss, Judged
 from afdx_tools.conformance.measuring import SIDES, Measured
 from afdx_tools.conformance.numbers import standing_of
 from afdx_tools.conformance.recorded import Stood
@@ -34,11 +34,11 @@ class Senders:
     lines name."""
 
     def __init__(
-        self, measured: Measured, sent: Sent, stood: Mapping[tuple[bool, int], Stood] | None
+        self, measured: Measured, judged: Judged, stood: Mapping[tuple[bool, int], Stood] | None
     ) -> None:
-        self.measured, self.sent, self.stood = measured, sent, stood
+        self.measured, self.judged, self.stood = measured, judged, stood
         self.found: dict[Source, list[Amiss]] = defaultdict(list)
-        for each in sent.amiss:
+        for each in judged.amiss:
             self.found[Source(self.vl_of(each), each.port)].append(each)
 
     def vl_of(self, each: Amiss) -> int | None:
@@ -99,7 +99,7 @@ class Senders:
 
     def lines(self) -> list[Row]:
         """A row for each line, with the frame that it names."""
-        return [self.line(each) for each in self.sent.amiss]
+        return [self.line(each) for each in self.judged.amiss]
 
     def line(self, each: Amiss) -> Row:
         """A line's row."""
@@ -132,10 +132,11 @@ def counts_of(lines: Sequence[Amiss]) -> Row:
     return {**row, "reasons": dict(Counter(each.why for each in lines if each.why))}
 
 
-def totals_of(sent: Sent) -> Row:
+def totals_of(judged: Judged) -> Row:
     """The sums: the counts of the last line that are of senders, each kind of line."""
-    words = Counter(each.word for each in sent.amiss)
-    counts = {name: sent.counts[name] for name in ("sent", "cut", "alone") if name in sent.counts}
+    words = Counter(each.word for each in judged.amiss)
+    names = ("sent", "cut", "alone")
+    counts = {name: judged.counts[name] for name in names if name in judged.counts}
     return {**counts, **{word: words[word] for word in of_senders()}}
 
 

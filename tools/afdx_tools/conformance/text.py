@@ -8,6 +8,7 @@ from afdx_tools.conformance.numbers import account_words, no_verdict
 from afdx_tools.conformance.page import COUNTED, PROVED, proved_of_senders, shown_in
 from afdx_tools.conformance.proposals import option_words
 from afdx_tools.conformance.senders import source_words
+from afdx_tools.conformance.together import verdict_of_switch
 from afdx_tools.report.ranking import latency_text, nearest
 from afdx_tools.tables import Row, as_text, cell
 
@@ -55,6 +56,8 @@ def head_of(report: Row) -> Iterator[str]:
             yield f"{name:11} {report[name]}"
     if no_verdict(report):
         yield f"verdict     none: {no_verdict(report)}"
+    if report["verdict"] and "of_senders" in report:
+        yield f"switch      {verdict_of_switch(report)}"
     yield from findings_of(report)
     if report["verdict"]:
         for name in ("explained", "open", "uncertain", "left_out", "unseen", "idle"):
@@ -84,7 +87,7 @@ def amiss_text(row: Row) -> str:
 
 
 def head_of_senders(report: Row) -> Iterator[str]:
-    """The same of the senders, and what both answers say together."""
+    """The same of the senders, and what the run says of both."""
     told, found = report["of_senders"], report["sender_deviations"]
     yield f"senders     {told['verdict'] or 'none: ' + told['fault']}"
     for row in (found if len(found) <= MOST_TOLD else firsts(found))[:MOST_TOLD]:

@@ -1,31 +1,31 @@
-"""What a recorded switch and the systems that send to it say together, of two runs of the program:
-what each answers, and which premises of more aren't met. Nothing is proved here."""
+"""What a recorded switch and the systems that send to it say together, by one run of the program:
+what it answers of each, and whether the premises of the law hold by which each message came once
+and in order."""
 from __future__ import annotations
 
 from html import escape
 from typing import Iterator, NamedTuple
 
-from afdx_tools.conformance.judging import Judged, Sent
+from afdx_tools.conformance.judging import CONFORMS, UNDECIDED, Judged
 from afdx_tools.conformance.options import Options
 from afdx_tools.report.cover import table_of
 from afdx_tools.tables import Row
 
-CONFORMS = "conforms"
 EXACT = ("slack", "between", "drift", "inner", "asked")  # options that leave no exact answer
 LAW, SWITCH = "no sender left the law", "the switch conforms"
-COUNTS = {  # counts of the last lines that have to be 0, with what that says
+COUNTS = {  # counts of the last line that have to be 0, with what that says
     "open": "what became of each frame was recorded",
     "left-out": "nothing was left out",
     "unseen": "all ports were recorded",
     "alone": "both networks were recorded of each link",
 }
-SAID = "These are two answers of two runs. "
 ALL_MET = (
-    "Nothing stands in the way of reading them together: the tables are admitted, all was recorded "
-    "and judged, with exact stamps. That each message came once and in order isn't proved of both "
-    "runs as one statement."
+    "The tables are admitted, all was recorded and judged, from the begin on and with exact "
+    "stamps. By the law both_show_once of PROMISES.md it follows: each receiver that keeps the "
+    "rules, from a reset on, got each message to a UDP port of its own once and in order, as far "
+    "as one of both networks was recorded."
 )
-SOME_LACK = "No more follows from them, since this isn't so: "
+SOME_LACK = "That each message came once and in order doesn't follow, since this isn't so: "
 
 
 class Premise(NamedTuple):
@@ -46,31 +46,29 @@ def findings(verdict: str) -> str:
     return "1 finding" if count == "1" else f"{count} findings"
 
 
-def of_switch(judged: Judged) -> str:
-    """What the run of the switch answers, in a sentence."""
-    if judged.fault:
-        return f"There is no verdict on the switch: {judged.fault}."
-    if judged.verdict == CONFORMS:
+def of_switch(verdict: str) -> str:
+    """What is answered of the switch, in a sentence."""
+    if verdict == CONFORMS:
         return "The switch conforms."
-    if judged.verdict == "undecided":
+    if verdict == UNDECIDED:
         return "Nothing was shown of the switch."
-    return f"The switch deviates: {findings(judged.verdict)}."
+    return f"The switch deviates: {findings(verdict)}."
 
 
-def of_senders(sent: Sent) -> str:
-    """What the run of the senders answers."""
-    if sent.fault:
-        return f"There is no verdict on the senders: {sent.fault}."
-    if sent.verdict == CONFORMS:
+def of_senders(verdict: str) -> str:
+    """What is answered of the senders."""
+    if verdict == CONFORMS:
         return "No sender left the law."
-    if sent.verdict == "undecided":
+    if verdict == UNDECIDED:
         return "Nothing was shown of the senders."
-    return f"Senders left the law: {findings(sent.verdict)}."
+    return f"Senders left the law: {findings(verdict)}."
 
 
-def of_senders_alone(sent: Sent) -> str:
-    """The same where no switch was judged."""
-    return f"{of_senders(sent)} No switch was judged."
+def of_senders_alone(judged: Judged) -> str:
+    """What a run says by which no switch was judged."""
+    if judged.fault:
+        return f"There is no verdict on the senders: {judged.fault}. No switch was judged."
+    return f"{of_senders(judged.of_senders())} No switch was judged."
 
 
 def given(options: Options) -> Iterator[str]:
@@ -91,22 +89,20 @@ def apart_premise(options: Options, least: int | None) -> Premise:
     return Premise(asked, found, least is not None and options.apart <= least)
 
 
-def premises(
-    admission: str, judged: Judged, sent: Sent, options: Options, least: int | None
-) -> list[Premise]:
-    """What would have to be so, by the last lines, by `check` and by the options."""
+def premises(admission: str, judged: Judged, options: Options, least: int | None) -> list[Premise]:
+    """What has to be so, by the lines and the last one, by `check` and by the options."""
     lost = [counts.get("recorder-lost", 0) for counts in judged.skipped]
     exact = " ".join(given(options))
-    counts = {**judged.counts, "alone": sent.counts.get("alone")}
     switch = "one" if options.switch is None else f"--switch {options.switch}"
+    answers = {LAW: judged.of_senders(), SWITCH: judged.of_switch(options.exercised)}
     found = [
         Premise("the tables are admitted", admission, admission == "ok"),
         Premise("there is one switch a side", switch, options.switch is None),
-        Premise(LAW, sent.verdict or sent.fault, sent.verdict == CONFORMS),
-        Premise(SWITCH, judged.verdict or judged.fault, judged.verdict == CONFORMS),
-    ]
+        *(Premise(words, verdict or judged.fault, verdict == CONFORMS)
+          for words, verdict in answers.items()),
+    ]  # fmt: skip
     for name, words in COUNTS.items():
-        count = counts.get(name)
+        count = judged.counts.get(name)
         found.append(Premise(words, "-" if count is None else f"{name} {count}", count == 0))
     if lost:
         found.append(Premise("recorders lost nothing", f"{sum(lost)} lost", not any(lost)))
@@ -118,20 +114,22 @@ def premises(
     ]  # fmt: skip
 
 
-def sentence(judged: Judged, sent: Sent, all_premises: list[Premise]) -> str:
-    """What both say: each answer, and where both are good ones what is lacking for more."""
-    words = f"{of_senders(sent)} {of_switch(judged)} "
-    if judged.verdict != CONFORMS or sent.verdict != CONFORMS:
-        return words + SAID.rstrip()
-    lacks = [f"{each.asked} ({each.found})" for each in all_premises if not each.holds]
-    return words + SAID + (f"{SOME_LACK}{'; '.join(lacks)}." if lacks else ALL_MET)
-
-
-def status_of(judged: Judged, sent: Sent) -> int:
-    """The status of both: that of a fault, the switch's first; else of the worse verdict."""
+def sentence(judged: Judged, options: Options, all_premises: list[Premise]) -> str:
+    """What a run says: of senders, of the switch, and where both are right what follows, or what is
+    lacking for it."""
     if judged.fault:
-        return judged.status
-    return sent.status if sent.fault else max(judged.status, sent.status)
+        return f"There is no verdict: {judged.fault}."
+    senders, switch = judged.of_senders(), judged.of_switch(options.exercised)
+    words = f"{of_senders(senders)} {of_switch(switch)}"
+    if switch != CONFORMS or senders != CONFORMS:
+        return words
+    lacks = [f"{each.asked} ({each.found})" for each in all_premises if not each.holds]
+    return f"{words} " + (f"{SOME_LACK}{'; '.join(lacks)}." if lacks else ALL_MET)
+
+
+def verdict_of_switch(report: Row) -> str:
+    """What is answered of the switch alone."""
+    return report.get("of_senders", {}).get("switch", report["verdict"])
 
 
 def answers_table(report: Row) -> str:
@@ -140,7 +138,7 @@ def answers_table(report: Row) -> str:
         return ""
     told = report["of_senders"]
     rows = [
-        ("Switch", report["verdict"] or report["fault"] or "not judged"),
+        ("Switch", verdict_of_switch(report) or report["fault"] or "not judged"),
         ("Senders", told["verdict"] or told["fault"]),
         ("Both", told["says"]),
     ]

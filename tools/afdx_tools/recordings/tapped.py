@@ -195,11 +195,13 @@ def note_frames(found: Found, claims: Claims, tapped: Tapped) -> None:
 
 class Asked(NamedTuple):
     """What is asked of a table: the word of an interface; where one of several switches is judged,
-    which: rows of others may be of other recordings; and whether systems are judged as senders."""
+    which: rows of others may be of other recordings; and whether systems are judged as senders, for
+    which something has to come in, and a switch beside them."""
 
     word: Callable[[Claims, Tap, int], str]
     switch: str | None = None
     of_senders: bool = False
+    of_switch: bool = True
 
 
 def word_of(claims: Claims, tap: Tap, number: int) -> str:
@@ -224,19 +226,30 @@ def conform_word(tap: Tap, number: int) -> str:
     return f"--{name}={number}={tap.place.side}:{tap.place.port}"
 
 
-def asked_for(config: Config, switch: str | None, of_senders: bool = False) -> Asked:
+def asked_for(
+    config: Config, switch: str | None, of_senders: bool = False, of_switch: bool = True
+) -> Asked:
     """The words of `conform`, of one switch of several: there cables bring arrivals, too, what
-    leaves counts, but for senders, and an interface without a word is left out."""
+    leaves counts, where the switch is judged, and an interface without a word is left out."""
     want_switch(config, switch)
 
     def word(_: Claims, tap: Tap, number: int) -> str:
-        is_out = of_senders and tap.direction == OUT
+        is_out = not of_switch and tap.direction == OUT
         return "" if is_out or tap.is_of_another(switch) else conform_word(tap, number)
 
-    return Asked(word, switch, of_senders)
+    return Asked(word, switch, of_senders, of_switch)
 
 
 OF_REPLAYS = Asked(word_of)
+
+
+def note_senders(found: Found, of_switch: bool) -> None:
+    """Notes where nothing came in, by which systems are judged, and where nothing left, by which a
+    switch is."""
+    if not any(word.startswith("--interface=") for word in found.words):
+        found.faults.append("no interface goes in: nothing that systems sent was recorded")
+    elif of_switch and not any(word.startswith("--left=") for word in found.words):
+        found.remarks.append("no interface goes out: these words judge the systems alone")
 
 
 def note_words(found: Found, claims: Claims, rows: list[dict[int, Tap]], asked: Asked) -> None:
@@ -251,8 +264,8 @@ def note_words(found: Found, claims: Claims, rows: list[dict[int, Tap]], asked: 
             )
         found.words += sorted(words)
     if asked.of_senders:
-        if any(rows) and not found.words:
-            found.faults.append("no interface goes in: nothing that systems sent was recorded")
+        if any(rows):
+            note_senders(found, asked.of_switch)
         found.words.insert(0, SENDERS)
 
 

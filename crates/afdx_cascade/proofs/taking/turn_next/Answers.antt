@@ -4,7 +4,8 @@ use Rattle.afdx_cascade.proofs.taking.turn_next.Goals as goal
 use Rattle.afdx_cascade.proofs.KeepLemmas.{turn-keeps}
 use Rattle.afdx_cascade.proofs.TurningLemmas.{on-err}
 use Rattle.afdx_cascade.proofs.EndLemmas.{ring-end, ring-by, ring-late, all-done}
-use Rattle.afdx_cascade.proofs.NextLemmas.{first-within, time-by, turn-lacks, not-quiet, until-more, quiet-end, quiet-by}
+use Rattle.afdx_cascade.proofs.FirstTurnLemmas.{first-given}
+use Rattle.afdx_cascade.proofs.NextLemmas.{first-within, time-by, turn-lacks, until-more, quiet-end, quiet-by}
 
 pub turn_at-requires-clause-within : goal.turn_at-requires-clause-within
 turn_at-requires-clause-within c =
@@ -20,21 +21,19 @@ turn_at-requires-clause-clock c k n at =
     c.if-first-ge-ORDER_WITHOUT_TURN.false c.given_at-at.ensures.low c.given_at-at.ensures.high)
     (s.4.clock k n at)
 
-pub unreachable-requires : goal.unreachable-requires
-unreachable-requires c =
-    let s = c.requires.sound in
-    not-quiet s.0 c.args.networks.now s.1 s.2 s.3 c.args.first c.given_at-at.result s.4 c.requires.first
-    c.if-first-ge-ORDER_WITHOUT_TURN.false c.given_at-at.ensures.low c.given_at-at.ensures.high
-    (λ n here. c.in-None.ensures.none n here)
+pub turn_at-requires-clause-first : goal.turn_at-requires-clause-first
+turn_at-requires-clause-first c n here =
+    first-given c.args.networks.now c.args.first c.given_at-at.result c.requires.first
+    c.if-first-ge-ORDER_WITHOUT_TURN.false c.given_at-at.ensures.low n here
 
 pub returns-clause-turns : goal.returns-clause-turns
 returns-clause-turns c p time ring so_far keeps early ends transit = record {
   at = c.given_at-at.result;
   in_time = c.if-at-until.false;
   is = turn-keeps p so_far c.args.networks.now c.turn_at.new.networks c.turn_at.new.transit.items time
-      c.given_at-at.result ring c.args.first c.in-Some.turned keeps c.requires.first
+      c.given_at-at.result ring c.args.first c.turn_at.result keeps c.requires.first
       c.if-first-ge-ORDER_WITHOUT_TURN.false early c.given_at-at.ensures.low c.given_at-at.ensures.high
-      (c.in-Some.ensures.gives p time ring so_far keeps.plan ends keeps.stands
+      (c.turn_at.ensures.gives p time ring so_far keeps.plan ends keeps.stands
       (subst (λ w. AreInTransit p w ring) (sym c.in_ok-try_reserve.ensures.items) transit))
       c.turn_at.ensures.length c.turn_at.ensures.clock;
 }

@@ -1,4 +1,4 @@
-use Rattle.std.proofs.Common.{rules, ◌≡◌, Err, [], subst}
+use Rattle.std.proofs.Common.{rules, ◌≡◌, Err, [], refl, subst}
 use Rattle.afdx_input_lines.specs.declared.fault.RunFault.TheVariants as run
 use Rattle.afdx_input_lines.specs.FrameLines.{listed_frame}
 use Rattle.afdx_input_runs.specs.Arrivals.{TakesFrames}
@@ -7,12 +7,13 @@ use Rattle.afdx_input_sources.specs.Items.{thing_of}
 use Rattle.afdx_input_sources.specs.Listed.{frames}
 use Rattle.afdx_input_sources.specs.Tapping.{taps_in}
 use Rattle.afdx_command_conform.proofs.AddedLemmas.{if-some}
-use Rattle.afdx_command_conform.proofs.BegunLemmas.{nothing-early}
+use Rattle.afdx_command_conform.proofs.BegunLemmas.{nothing-early, tells-none}
 use Rattle.afdx_command_conform.proofs.RanLemmas.{answers-memory, run-answers, where-known}
 use Rattle.afdx_config.specs.Rows.{Rows}
 use Rattle.afdx_command_conform.specs.AllLines.{AreAllLines, AreEarlyLines, AreSomeLines}
 use Rattle.afdx_command_conform.specs.Choices.{Choices}
 use Rattle.afdx_command_conform.specs.ChoicesOf.{choices_of}
+use Rattle.afdx_command_conform.specs.Lines.{lines_of}
 use Rattle.afdx_command_conform.specs.Told.{CountsAll, TellsItems, TellsToEnd}
 use Rattle.afdx_command_conform.specs.Written.{Begins}
 use Rattle.afdx_input_runs.specs.Joining.{frames_of}
@@ -34,7 +35,7 @@ returns-in_err-judging-clause-answer g c =
 pub run_judged-requires-clause-ready : goal.run_judged-requires-clause-ready
 run_judged-requires-clause-ready g c = (
   (c.args.tables.now, choices_of (taps_in c.taps-taps.result) c.args.choices.now),
-  c.in_ok-judging.ensures (g.O.Sink.written c.args.output.now),
+  tells-none _ _ (g.O.Sink.written c.args.output.now) c.in_ok-judging.ensures,
   λ item. tt,
 )
 
@@ -50,9 +51,10 @@ returns-clause-answer g c =
     (AreAllLines k) (AreEarlyLines k) (AreSomeLines k) c.args.choices.now.is_lossy
     (TellsToEnd k j) (TellsItems k j) (λ start written past. Begins start written (AreSomeLines k (frames_of past)))
     (CountsAll j) old new (λ mid items last done counted. counted k old mid items done)
-    (λ items told. record { lines = told.0; are_so = told.3; written = told.1.written }) (λ items begun. begun)
+    (λ items told. record { lines = lines_of told.0; are_so = (told.0, refl, told.1.early); written = told.2 })
+    (λ items begun. begun)
     c.run_judged.result h)
     (g.A.RunInput.known c.args.inputs.now)
     (c.run_judged.ensures.answer k
     (subst (λ p. TellsItems (c.args.tables.now, choices_of p c.args.choices.now) c.in_ok-judging.judging old old [])
-    c.taps-taps.ensures (c.in_ok-judging.ensures old)) (λ item. tt))
+    c.taps-taps.ensures (tells-none _ _ old c.in_ok-judging.ensures)) (λ item. tt))

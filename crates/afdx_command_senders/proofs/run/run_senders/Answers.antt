@@ -11,7 +11,7 @@ use Rattle.afdx_command_conform.proofs.AddedLemmas.{if-some}
 use Rattle.afdx_command_conform.proofs.RanLemmas.{answers-memory, run-answers, where-known}
 use Rattle.afdx_command_conform.specs.Tapped.{Taps}
 use Rattle.afdx_command_conform.specs.Written.{Begins}
-use Rattle.afdx_command_senders.proofs.SenderRunLemmas.{no-lines}
+use Rattle.afdx_command_senders.proofs.SenderRunLemmas.{new-tells, no-lines}
 use Rattle.afdx_command_senders.proofs.SettingLemmas.{is-setting, nothing-early}
 use Rattle.afdx_command_senders.specs.Asked.{Asked, asked_of}
 use Rattle.afdx_command_senders.specs.Outlook.{outlook_of}
@@ -46,7 +46,8 @@ pub run_judged-requires-clause-ready : goal.run_judged-requires-clause-ready
 run_judged-requires-clause-ready g c =
     let new = c.in_ok-judging.ensures in (
       (new.0, asked_of (taps_in c.taps-taps.result) c.args.asked),
-      new.2 (g.O.Sink.written c.args.output.now),
+      new-tells (new.0, asked_of (taps_in c.taps-taps.result) c.args.asked) _ (g.O.Sink.written c.args.output.now)
+          new.2,
       λ item. tt,
     )
 
@@ -78,4 +79,4 @@ returns-clause-answer g c =
           }) (λ items begun. begun) c.run_judged.result h,
     ))
     (g.A.RunInput.known c.args.inputs.now)
-    (c.run_judged.ensures.answer k (new.2 old) (λ item. tt)))
+    (c.run_judged.ensures.answer k (new-tells k _ old new.2) (λ item. tt)))

@@ -1,4 +1,4 @@
-use Rattle.std.proofs.Common.{ℕ, ◌<◌, length, sym, arith, refl, ap, ◌∙◌, subst, ◌≡◌, slice_get, Some, None, replicate}
+use Rattle.std.proofs.Common.{ℕ, ◌<◌, length, sym, arith, refl, ap, ◌∙◌, subst, ◌≡◌, slice_get, Some, None, replicate, false}
 use Rattle.afdx_frame.proofs.ListLemmas.{slice_get-within, slice_get-one}
 use Rattle.afdx_config.specs.Admission.{links_from}
 use Rattle.afdx_config.specs.Lawful.{IsLawfulSwitch}
@@ -18,6 +18,7 @@ made c = record {
   system_id = c.system-row.result.now.id;
   partition = c.system-row.result.now.partition;
   clock = 0;
+  is_idle = false;
   lines = c.in_ok-lines.lines;
   places = c.in_ok-places.places;
   agenda = c.in_ok-agenda.agenda;

@@ -88,19 +88,19 @@ returns-then-length-gt-MOST_BYTES-clause-counted c = λ frames before.
     (let b = before in omega (arith, b))
 
 pub returns-then-not-is_in_time-clause-stands : goal.returns-then-not-is_in_time-clause-stands
-returns-then-not-is_in_time-clause-stands c k frames lines same-tables chosen latest few stands =
+returns-then-not-is_in_time-clause-stands c k frames dues same-tables chosen latest few stands =
     let x : Frame = frame_of (item_of c.args.n c.args.seen.now c.args.message.now) in
-    stands-next k frames x c.args.self.now c.args.self.now lines latest
-    (λ until dues s. stand-skipped k.0 k.1 until x.arrival.time x frames dues c.args.self.now.streams
+    stands-next k frames x c.args.self.now c.args.self.now dues latest
+    (λ until s. stand-skipped k.0 k.1 until x.arrival.time x frames dues c.args.self.now.streams
     (out-of-time k.0 k.1 x (subst (λ o. is_in_time o x ≡ false) chosen (sym
     (c.is_in_time.ensures (taps_in c.args.self.now.streams.taps.now) c.args.message.now c.args.n)
     ∙ c.if-not-is_in_time.true))) s) refl stands
 
 pub returns-then-is_passed-clause-stands : goal.returns-then-is_passed-clause-stands
-returns-then-is_passed-clause-stands c k frames lines same-tables chosen latest few stands =
+returns-then-is_passed-clause-stands c k frames dues same-tables chosen latest few stands =
     let x : Frame = frame_of (item_of c.args.n c.args.seen.now c.args.message.now) in
-    stands-next k frames x c.args.self.now _ lines latest
-    (λ until dues s. stand-skipped k.0 k.1 until x.arrival.time x frames dues c.args.self.now.streams
+    stands-next k frames x c.args.self.now _ dues latest
+    (λ until s. stand-skipped k.0 k.1 until x.arrival.time x frames dues c.args.self.now.streams
     (out-of-choice k.0 k.1 x (subst (λ o. is_passed k.0 o x ≡ true) chosen
     (subst (λ t. is_passed t (choices_of (taps_in c.args.self.now.streams.taps.now) c.args.self.now.choices.now) x
     ≡ true) same-tables
@@ -110,17 +110,17 @@ returns-then-is_passed-clause-stands c k frames lines same-tables chosen latest 
     ∙ ap link_named_by c.frame-frame.ensures))) ∙ c.if-is_passed.true)))) s) refl stands
 
 pub returns-then-length-gt-MOST_BYTES-clause-stands : goal.returns-then-length-gt-MOST_BYTES-clause-stands
-returns-then-length-gt-MOST_BYTES-clause-stands c k frames lines same-tables chosen latest few stands =
+returns-then-length-gt-MOST_BYTES-clause-stands c k frames dues same-tables chosen latest few stands =
     let x : Frame = frame_of (item_of c.args.n c.args.seen.now c.args.message.now) in
-    stands-next k frames x c.args.self.now c.args.self.now lines latest
-    (λ until dues s. stand-skipped k.0 k.1 until x.arrival.time x frames dues c.args.self.now.streams
+    stands-next k frames x c.args.self.now c.args.self.now dues latest
+    (λ until s. stand-skipped k.0 k.1 until x.arrival.time x frames dues c.args.self.now.streams
     (too-long k.0 k.1 x
     (subst (λ (b : List ℕ). most_bytes < length b) c.frame-frame.ensures
     (let l = c.length.ensures in let test = c.if-length-gt-MOST_BYTES.true in omega (arith, l, test)))) s) refl
     stands
 
 pub returns-in-Came-clause-stands : goal.returns-in-Came-clause-stands
-returns-in-Came-clause-stands c k frames lines same-tables chosen latest few stands =
+returns-in-Came-clause-stands c k frames dues same-tables chosen latest few stands =
     let h = c.args.seen.now.heading in
     let x : Frame = frame_of (item_of c.args.n c.args.seen.now c.args.message.now) in
     let in-time : is_in_time k.1 x ≡ true = subst (λ (o : Choices). is_in_time o x ≡ true) chosen
@@ -133,7 +133,7 @@ returns-in-Came-clause-stands c k frames lines same-tables chosen latest few sta
     ∙ ap link_named_by c.frame-frame.ensures)
     (c.place_named-named.ensures.place x.arrival.bytes (c.in_ok-vl.ensures
     ∙ ap link_named_by c.frame-frame.ensures))) ∙ c.if-is_passed.false)) in
-    let none = running-then k frames x c.args.self.now lines in-time stands in
+    let none = running-then k frames x c.args.self.now dues in-time stands in
     let bytes : List ℕ = bytes_of c.frame-frame.result in
     let same : frame_with Came (arrival_with c.args.n h.time h.side h.port bytes) ≡ x =
     ap (λ r. frame_with r (arrival_with c.args.n h.time h.side h.port bytes)) (sym c.in-Came.is)
@@ -141,8 +141,8 @@ returns-in-Came-clause-stands c k frames lines same-tables chosen latest few sta
     c.frame-frame.ensures in
     let count = does-count k.0 k.1 x in-time out (subst (λ (b : List ℕ). length b ≤ most_bytes) c.frame-frame.ensures
     (let l = c.length.ensures in let test = c.if-length-gt-MOST_BYTES.false in omega (arith, l, test))) in
-    next-on c.came.result k frames x c.args.self.now _ lines latest
-    (λ until dues s. subst (λ f. OnOk c.came.result (StreamsStand k.0 k.1 until (f ∷ frames) dues h.time
+    next-on c.came.result k frames x c.args.self.now _ dues latest
+    (λ until s. subst (λ f. OnOk c.came.result (StreamsStand k.0 k.1 until (f ∷ frames) dues h.time
     c.came.new.self)) same
     (c.came.ensures.stands k.0 k.1 until h.time frames dues
     (c.place_named-named.ensures.place bytes (c.in_ok-vl.ensures))
@@ -150,7 +150,7 @@ returns-in-Came-clause-stands c k frames lines same-tables chosen latest few sta
     (behind-later frames h.time latest stands.by_time) few none s)) c.came.ensures.ended stands
 
 pub returns-in-Left-clause-stands : goal.returns-in-Left-clause-stands
-returns-in-Left-clause-stands c k frames lines same-tables chosen latest few stands =
+returns-in-Left-clause-stands c k frames dues same-tables chosen latest few stands =
     let h = c.args.seen.now.heading in
     let x : Frame = frame_of (item_of c.args.n c.args.seen.now c.args.message.now) in
     let in-time : is_in_time k.1 x ≡ true = subst (λ (o : Choices). is_in_time o x ≡ true) chosen
@@ -163,15 +163,15 @@ returns-in-Left-clause-stands c k frames lines same-tables chosen latest few sta
     ∙ ap link_named_by c.frame-frame.ensures)
     (c.place_named-named.ensures.place x.arrival.bytes (c.in_ok-vl.ensures
     ∙ ap link_named_by c.frame-frame.ensures))) ∙ c.if-is_passed.false)) in
-    let none = running-then k frames x c.args.self.now lines in-time stands in
+    let none = running-then k frames x c.args.self.now dues in-time stands in
     let bytes : List ℕ = bytes_of c.frame-frame.result in
     let same : frame_with Left (arrival_with c.args.n h.time h.side h.port bytes) ≡ x =
     ap (λ r. frame_with r (arrival_with c.args.n h.time h.side h.port bytes)) (sym c.in-Left.is)
     ∙ ap (λ b. frame_with c.args.seen.now.role (arrival_with c.args.n h.time h.side h.port b)) c.frame-frame.ensures in
     let count = does-count k.0 k.1 x in-time out (subst (λ (b : List ℕ). length b ≤ most_bytes) c.frame-frame.ensures
     (let l = c.length.ensures in let test = c.if-length-gt-MOST_BYTES.false in omega (arith, l, test))) in
-    next-on c.left.result k frames x c.args.self.now _ lines latest
-    (λ until dues s. subst (λ f. OnOk c.left.result (StreamsStand k.0 k.1 until (f ∷ frames) dues h.time
+    next-on c.left.result k frames x c.args.self.now _ dues latest
+    (λ until s. subst (λ f. OnOk c.left.result (StreamsStand k.0 k.1 until (f ∷ frames) dues h.time
     c.left.new.self)) same
     (c.left.ensures.stands k.0 k.1 until h.time frames dues
     (c.place_named-named.ensures.place bytes c.in_ok-vl.ensures)

@@ -1,32 +1,35 @@
-use Rattle.std.proofs.Common.{true, ◌∙◌, ap}
-use Rattle.std.specs.Prelude.{is_some}
+use Rattle.std.proofs.Common.{arith}
 use Rattle.afdx_input_runs.specs.Joining.{frames_of}
 use Rattle.afdx_text.proofs.OutputLemmas.{on-err}
-use Rattle.afdx_command_conform.proofs.BegunLemmas.{all-are-some, begun-last, goes-last, on-err-all}
-use Rattle.afdx_command_conform.proofs.EndLemmas.{ends-all, known-end}
+use Rattle.afdx_command_conform.specs.Choices.{latest_of}
+use Rattle.afdx_command_conform.specs.Told.{told_by}
+use Rattle.afdx_command_conform.proofs.AddedLemmas.{on-ok}
+use Rattle.afdx_command_conform.proofs.BegunLemmas.{all-first-lines, begins-by, err-on, none-due-yet, some-first, tells-by, text-front}
+use Rattle.afdx_command_conform.proofs.EarlyLemmas.{stands-begun}
+use Rattle.afdx_command_conform.proofs.EndLemmas.{all-first}
 use Rattle.afdx_command_conform.proofs.judging.JudgingRunMachineSeen.end.Goals as goal
 
-pub returns-in_err-close_at_end-clause-begins : goal.returns-in_err-close_at_end-clause-begins
-returns-in_err-close_at_end-clause-begins g c = λ k start past h.
-    on-err c.from_residual.result _ (all-are-some k (frames_of past) start _
-    (c.in_err-close_at_end.ensures.begun k start (frames_of past) (h.0, h.1, h.2)))
+pub returns-in_err-finish-clause-begins : goal.returns-in_err-finish-clause-begins
+returns-in_err-finish-clause-begins g c = λ k start past h.
+    let frames = frames_of past in
+    on-err c.from_residual.result _ (some-first k frames start _ h.0 (text-front start _ _ h.2)
+    (stands-begun k frames (latest_of frames) c.args.self.now h.0 (omega arith) h.1.stands))
 
 pub returns-clause-done : goal.returns-clause-done
 returns-clause-done g c = λ k start past h.
-    let mid = c.in_ok-close_at_end.ensures.stands k start (frames_of past) (h.0, h.1, h.2) in
-    let all = mid.1 in
-    let known = known-end c.close_at_end.new.self.streams.ended mid.2 in
-    ends-all c.tell_due.result k c.tell_due.new.self start _ past mid.0
-    (ap (λ o. is_some o) c.tell_due.ensures.ended ∙ mid.2)
-    (c.tell_due.ensures.stands k true mid.0 mid.0 start (frames_of past)
-    (goes-last k mid.0 c.close_at_end.new.self all.0 (frames_of past) known.0 known.1 all.2) all)
+    let frames = frames_of past in
+    let all = c.in_ok-finish.ensures k frames h.0
+    (none-due-yet k (latest_of frames) c.args.self.now frames h.0 c.new-due.ensures.items (h.1.works, h.1.stands)) in
+    on-ok (λ put. (told_by c.finish.new.due.items h.0, all, tells-by start _ _ h.0 h.2 c.finish.new.due.items
+    c.as_slice.ensures.value put))
+    c.put_due.result c.put_due.ensures.told
 
 pub returns-clause-begins : goal.returns-clause-begins
 returns-clause-begins g c = λ k start past h.
-    let mid = c.in_ok-close_at_end.ensures.stands k start (frames_of past) (h.0, h.1, h.2) in
-    let all = mid.1 in
-    let known = known-end c.close_at_end.new.self.streams.ended mid.2 in
-    on-err-all c.tell_due.result k (frames_of past) start _
-    (begun-last c.tell_due.result k mid.0 c.close_at_end.new.self.streams.ended known.0 start _ (frames_of past) known.1
-    (c.tell_due.ensures.begun k true mid.0 mid.0 start (frames_of past)
-    (goes-last k mid.0 c.close_at_end.new.self all.0 (frames_of past) known.0 known.1 all.2) all))
+    let frames = frames_of past in
+    let all = c.in_ok-finish.ensures k frames h.0
+    (none-due-yet k (latest_of frames) c.args.self.now frames h.0 c.new-due.ensures.items (h.1.works, h.1.stands)) in
+    err-on (λ put. all-first-lines k frames start _ (told_by c.finish.new.due.items h.0)
+    (begins-by start _ _ h.0 h.2 c.finish.new.due.items c.as_slice.ensures.value put)
+    (all-first k c.finish.new.self frames (told_by c.finish.new.due.items h.0) all))
+    c.put_due.result c.put_due.ensures.begun

@@ -1,9 +1,6 @@
-use Rattle.std.proofs.Common.{[], Some, refl, sym, ap, ◌∙◌, arith}
+use Rattle.std.proofs.Common.{Some, refl, sym, arith}
 use Rattle.afdx_input_sources.specs.Tapping.{taps_in}
-use Rattle.afdx_command_conform.specs.Telling.{findings_in}
-use Rattle.afdx_command_conform.proofs.TellingLemmas.{no-findings}
 use Rattle.afdx_command_senders.specs.Asked.{asked_of}
-use Rattle.afdx_command_senders.proofs.SenderRunLemmas.{no-lines, text-none}
 use Rattle.afdx_command_senders.proofs.SettingLemmas.{nothing-early}
 use Rattle.afdx_command_senders.proofs.judging.SendersRun.new.Goals as goal
 
@@ -12,8 +9,7 @@ returns c =
     let s = c.in_ok-senders.ensures (taps_in c.args.taps.now) c.recorded_ports.ensures in (
       s.0,
       s.1,
-      λ output. record {
-        told = [];
+      record {
         works = record {
           tables = sym s.1.tables;
           asked = refl;
@@ -21,12 +17,7 @@ returns c =
           latest = refl;
           few = omega arith;
         };
-        writes = record {
-          written = text-none output;
-          findings =
-              let none = ap (λ (l : _). findings_in l) no-lines ∙ no-findings in
-              omega (arith, none);
-        };
+        findings = refl;
         have = λ until may. s.2 until (Some 0);
         early = nothing-early s.0 (asked_of (taps_in c.args.taps.now) c.args.asked).run.until 0;
       },

@@ -1,23 +1,17 @@
-use Rattle.std.proofs.Common.{◌<◌, length, None, refl, ap, ◌∙◌, arith}
-use Rattle.std.specs.Prelude.{◌^◌}
+use Rattle.std.proofs.Common.{refl, ap, ◌∙◌}
 use Rattle.afdx_config.specs.Rows.{Rows}
 use Rattle.afdx_input_runs.specs.Joining.{frames_of}
 use Rattle.afdx_text.specs.declared.conform_line.Answer.{Answer}
 use Rattle.afdx_command_conform.specs.Tapped.{Taps, unseen_of}
 use Rattle.afdx_input_sources.specs.Tapping.{no_taps}
-use Rattle.afdx_command_senders.specs.Asked.{came_in}
-use Rattle.afdx_command_senders.specs.SenderLines.{found_of, sent_of, whole_setup}
+use Rattle.afdx_command_senders.specs.SenderLines.{found_of, sent_of}
 use Rattle.afdx_command_senders.specs.SenderTexts.{told_lines}
-use Rattle.afdx_command_senders.proofs.ConcludedLemmas.{came-few, conclusion-same, conclusion-with}
+use Rattle.afdx_command_senders.proofs.ConcludedLemmas.{conclusion-same, conclusion-with}
 use Rattle.afdx_command_senders.proofs.judging.SendersRunJudge.conclusion.Goals as goal
 
 pub returns : goal.returns
 returns c = λ k start end past h.
     let frames = frames_of past in
-    let z = whole_setup k frames in
-    let xs = came_in k.1 frames in
-    let few : length xs < 2 ^ 64 = let n = came-few k.1 frames in let m = h.works.few in omega (arith, n, m) in
-    let s = sent_of k frames in
     let answered = c.answer_by-answer.ensures in
     record {
       lines = told_lines h.told;
@@ -25,16 +19,15 @@ returns c = λ k start end past h.
         told = h.told;
         are = refl;
         are_all = h.all;
-        last_is = ap (λ (w : Answer). record (conclusion-with c.args.self.now.findings c.counts-counts.result.sent
-            c.counts-counts.result.cut c.alone-alone.result c.args.self.now.left_out c.unseen_of-unseen.result) {
+        last_is = ap (λ (w : Answer). record (conclusion-with c.args.self.now.findings c.totals-senders.result
+            c.args.self.now.left_out c.unseen_of-unseen.result) {
               answer = w;
             }) answered
-            ∙ conclusion-same c.args.self.now.findings c.counts-counts.result.sent c.counts-counts.result.cut
-            c.alone-alone.result c.args.self.now.left_out c.unseen_of-unseen.result
+            ∙ conclusion-same c.args.self.now.findings c.totals-senders.result c.args.self.now.left_out
+            c.unseen_of-unseen.result
             (found_of k frames (told_lines h.told))
-            s.sent s.cut s.alone _ (unseen_of k.0.tables no_taps) h.writes.findings
-            (c.counts-counts.ensures.sent z xs h.told h.have few) (c.counts-counts.ensures.cut z xs h.told h.have few)
-            (c.alone-alone.ensures z None xs h.told h.have) h.works.left_out
+            (sent_of k frames) _ (unseen_of k.0.tables no_taps) h.writes.findings
+            (c.totals-senders.ensures k frames h.told h.works h.have) h.works.left_out
             (c.unseen_of-unseen.ensures
             ∙ ap (λ (t : Taps). unseen_of c.args.self.now.tables.now t) c.none.ensures
             ∙ ap (λ (t : Rows). unseen_of t no_taps) h.works.tables);

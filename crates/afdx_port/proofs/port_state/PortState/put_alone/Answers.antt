@@ -3,7 +3,7 @@ use Rattle.std.specs.Prelude.{Some}
 use Rattle.afdx_port.specs.Held.{due_from}
 use Rattle.afdx_port.proofs.DueLemmas.{clock_due}
 use Rattle.afdx_port.proofs.PutLemmas.{has_room, pushed_sound, taken_puts, lost_puts}
-use Rattle.afdx_port.proofs.AloneLemmas.{alone-advances, alone-pushed, alone-quiet, due-given}
+use Rattle.afdx_port.proofs.AloneLemmas.{alone-advances, alone-class, alone-pushed, alone-quiet, due-given}
 use Rattle.afdx_port.proofs.port_state.PortState.put_alone.Goals as goal
 
 pub push-requires : goal.push-requires
@@ -85,3 +85,20 @@ pub returns-then-self-length-clause-limit : goal.returns-then-self-length-clause
 returns-then-self-length-clause-limit g c =
     due-given g.T.HasLength.facts _ c.turn_of-due.result g.met.T.HasLength.lawful
     (returns-then-self-length-clause-sound g c) (returns-then-self-length-clause-due g c)
+
+pub returns-then-self-length-clause-class : goal.returns-then-self-length-clause-class
+returns-then-self-length-clause-class g c =
+    let a = alone-advances g.T.HasLength.facts c.args.self.now c.args.time c.requires.sound
+    c.requires.clock c.requires.alone in
+    alone-class g.T.HasLength.facts (record c.args.self.now { clock = c.args.time }) c.push.new.self
+    c.args.time c.args.priority c.args.item c.length-length.result
+    (record {
+      lawful = g.met.T.HasLength.lawful;
+      sound = a.sound;
+      clock = a.clock;
+      limit = c.requires.limit;
+      fits = omega arith;
+      queue = c.push.ensures.queue;
+      changes = c.push.ensures.others;
+      bytes = c.length-length.ensures;
+    }) (clock_due g.T.HasLength.facts c.args.self.now c.args.time ∙ c.requires.alone)

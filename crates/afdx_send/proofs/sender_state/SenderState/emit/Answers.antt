@@ -3,9 +3,10 @@ use Rattle.afdx_port.specs.Schedule.{Turn}
 use Rattle.afdx_port.specs.declared.left.Left.{Left}
 use Rattle.afdx_send.specs.Frames.{Frame}
 use Rattle.afdx_send.specs.Calls.{Emits}
-use Rattle.afdx_send.specs.Sender.{SenderHistory, at, with_emission, StandsFor, IsNextIn, ready_count}
+use Rattle.afdx_send.specs.Sender.{KnowsIdle, SenderHistory, at, with_emission, StandsFor, IsNextIn, ready_count}
 use Rattle.afdx_send.proofs.CallLemmas.{emitted, none_ends, lacked}
 use Rattle.afdx_send.proofs.EmitLemmas.{emits, left_next, no_more}
+use Rattle.afdx_send.proofs.IdleLemmas.{knows_ready}
 use Rattle.afdx_send.proofs.sender_state.SenderState.emit.Goals as goal
 
 pub returns-in_default-clause-sound : goal.returns-in_default-clause-sound
@@ -94,3 +95,20 @@ returns-in-Err-clause-emits c =
     c.taken_are_on_schedule.ensures.turns in
     (n.slot, n.next, n.in_time))
     c.prepare.ensures.clock c.prepare.ensures.held)
+
+pub returns-in_default-clause-knows : goal.returns-in_default-clause-knows
+returns-in_default-clause-knows c =
+    let w = c.prepare.new.self in
+    let none : w.ready ≡ None = sym c.take.ensures.value ∙ c.in_default.is in
+    subst (λ (o : Option (Left Frame)). KnowsIdle (record w { ready = o })) (none ∙ sym c.take.ensures.after)
+    c.prepare.ensures.knows
+
+pub returns-in-Ok-clause-knows : goal.returns-in-Ok-clause-knows
+returns-in-Ok-clause-knows c =
+    let ready = sym c.take.ensures.value ∙ c.in-Some.is in
+    knows_ready c.prepare.new.self c.in-Some.left _ ready c.prepare.ensures.knows
+
+pub returns-in-Err-clause-knows : goal.returns-in-Err-clause-knows
+returns-in-Err-clause-knows c =
+    let ready = sym c.take.ensures.value ∙ c.in-Some.is in
+    knows_ready c.prepare.new.self c.in-Some.left _ ready c.prepare.ensures.knows

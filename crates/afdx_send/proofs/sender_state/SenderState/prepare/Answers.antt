@@ -1,31 +1,19 @@
-use Rattle.std.proofs.Common.{arith}
-use Rattle.afdx_send.specs.Sender.{at}
-use Rattle.afdx_send.proofs.DoneLemmas.{emitted_at}
-use Rattle.afdx_send.proofs.StandLemmas.{later}
+use Rattle.std.proofs.Common.{true≢false, arith, sym, ◌∙◌}
+use Rattle.std.proofs.lemmas.Bool.{ltb-true}
+use Rattle.afdx_send.proofs.IdleLemmas.{knows_marked, none_of}
+use Rattle.afdx_send.proofs.sender_state.SenderState.prepare.Goals.{then-is_none, else-is_none}
 use Rattle.afdx_send.proofs.sender_state.SenderState.prepare.Goals as goal
 
-pub advance-requires-clause-sound : goal.advance-requires-clause-sound
-advance-requires-clause-sound c =
-    let h = c.requires.sound.0 in let st = c.requires.sound.1 in (
-      at h c.args.until,
-      later c.args.self.now h c.args.until
-          (let e = st.clock in let le = c.requires.clock in omega arith) st,
-    )
-
-pub returns-then-is_none-clause-stands : goal.returns-then-is_none-clause-stands
-returns-then-is_none-clause-stands c =
-    λ h st. c.advance.ensures.stands (at h c.args.until)
-    (later c.args.self.now h c.args.until
-    (let e = st.clock in let le = c.requires.clock in omega arith) st)
-
-pub returns-else-is_none-clause-stands : goal.returns-else-is_none-clause-stands
-returns-else-is_none-clause-stands c =
-    λ h st. later c.args.self.now h c.args.until
-    (let e = st.clock in let le = c.requires.clock in omega arith) st
-
-pub returns-then-is_none-clause-done : goal.returns-then-is_none-clause-done
-returns-then-is_none-clause-done c =
-    λ h st late gone. emitted_at h c.args.until
-    (c.advance.ensures.done (at h c.args.until)
-    (later c.args.self.now h c.args.until
-    (let e = st.clock in let le = c.requires.clock in omega arith) st) late gone)
+pub returns-clause-knows : goal.returns-clause-knows
+returns-clause-knows c =
+    let w = c.move_to.new.self in
+    let b = c.if-is_none.self in
+    elim c.if-is_none.branch [
+      | then-is_none r ↦ knows_marked w b (λ is. none_of w.ready c.is_none.result c.is_none.ensures r.if-is_none.true)
+          c.move_to.ensures.idle
+          (λ is.
+          let clock = c.move_to.ensures.clock in
+          let before = ltb-true c.args.until 1200000000000000 (sym r.self-is ∙ is) in omega (arith, clock, before))
+      | else-is_none r ↦ knows_marked w b (λ is. absurd (true≢false (sym is ∙ r.self-is ∙ r.if-is_none.false)))
+          c.move_to.ensures.idle (λ is. absurd (true≢false (sym is ∙ r.self-is ∙ r.if-is_none.false)))
+    ]

@@ -1,7 +1,8 @@
-use Rattle.std.proofs.Common.{◌∙◌, ◌+◌, ap, subst, length, ℕ, OnOk}
+use Rattle.std.proofs.Common.{◌∙◌, ◌+◌, arith, ap, subst, length, ℕ, OnOk}
 use Rattle.afdx_send.specs.Sender.{at, StandsFor, IsTaken, IsRefused, submission, with_submission}
 use Rattle.afdx_send.proofs.SubmitLemmas.{none_ready, sound_by, admits_at, refused_at, map_err}
 use Rattle.afdx_send.proofs.SubmitLemmas.{map_ok, still_quiet, map_on_err}
+use Rattle.afdx_send.proofs.IdleLemmas.{knows_taken}
 use Rattle.afdx_send.proofs.sender_state.SenderState.submit.Goals as goal
 
 pub accept-requires-clause-sound : goal.accept-requires-clause-sound
@@ -21,6 +22,13 @@ returns-clause-sound c =
     let m = submission c.prepare.new.self.clock c.args.sub c.args.udp c.args.payload.now in
     sound_by c.accept.result c.accept.new.self h (λ place. IsTaken h place c.args.vl.0 m) m
     (c.accept.ensures.ok h st) (c.accept.ensures.unchanged h st)
+
+pub returns-clause-knows : goal.returns-clause-knows
+returns-clause-knows c =
+    let same = c.accept.ensures.clock in
+    let clock = c.prepare.ensures.clock in
+    let limit = c.requires.limit in
+    knows_taken c.accept.new.self c.accept.ensures.idle (omega (arith, same, clock, limit))
 
 pub returns-clause-submits : goal.returns-clause-submits
 returns-clause-submits c =

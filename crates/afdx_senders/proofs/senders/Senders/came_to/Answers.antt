@@ -16,7 +16,7 @@ returns-clause-stands c at may stand =
     on_ok (λ too. record {
       followed = followed;
       agenda = awaited_next at next place c.due-before.result c.due-after.result c.args.self.now.agenda
-          c.put_due.new.agenda (λ k other. came_others at x place (at place) k other)
+          c.put_due.new.self (λ k other. came_others at x place (at place) k other)
           (λ m was. stand.agenda place m (sym (c.due-before.ensures at stand.followed) ∙ was))
           (c.due-after.ensures next followed) too (λ k m other. stand.agenda k m);
     }) c.put_due.result c.put_due.ensures

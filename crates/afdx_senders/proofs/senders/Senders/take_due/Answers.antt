@@ -1,9 +1,9 @@
-use Rattle.std.proofs.Common.{List, false, true≢false, refl, sym, ◌∙◌, ◌≡◌, subst}
+use Rattle.std.proofs.Common.{List, false, true≢false, sym, ◌∙◌, ◌≡◌, subst}
 use Rattle.std.proofs.lemmas.List.Elements.{All-contains}
-use Rattle.afdx_senders.specs.Order.{is_before}
-use Rattle.afdx_senders.specs.Standing.{awaited}
-use Rattle.afdx_senders.specs.declared.sender_line.SenderLine.{SenderLine}
-use Rattle.afdx_senders.proofs.StandingLemmas.{AllAwaited, others_awaited, same_before, stale_awaited}
+use Rattle.afdx_senders.specs.Awaited.{awaited}
+use Rattle.afdx_senders.specs.Order.{is_moment_before}
+use Rattle.afdx_senders.specs.declared.agenda.DueSource.{DueSource}
+use Rattle.afdx_senders.proofs.StandingLemmas.{AllAwaited, others_awaited, stale_awaited}
 use Rattle.afdx_senders.proofs.senders.Senders.take_due.Goals as goal
 
 pub returns-then-is_moment-clause-due : goal.returns-then-is_moment-clause-due
@@ -13,7 +13,7 @@ returns-then-is_moment-clause-due c at stand =
       (
         e.moment,
         sym (c.due.ensures at s.followed) ∙ c.is_moment.ensures.0 c.if-is_moment.true,
-        same_before c.args.before (awaited e.moment e.line) e refl ∙ c.in-Some.ensures.in_time,
+        c.in-Some.ensures.in_time,
       ),
       record {
         followed = s.followed;
@@ -40,8 +40,8 @@ returns-clause-none c at stand =
     let s = c.loop-entry.invariant.stand at stand in (
       record {
         followed = s.followed;
-        agenda = subst (λ (l : List SenderLine). AllAwaited at l) (sym c.in_default.ensures.same) s.agenda;
+        agenda = subst (λ (l : List DueSource). AllAwaited at l) (sym c.in_default.ensures.same) s.agenda;
       },
-      λ place m due. All-contains (λ x. is_before c.args.before x ≡ false) c.loop-entry.self.agenda (awaited m place)
-          c.in_default.ensures.none (s.agenda place m due),
+      λ place m due. All-contains (λ x. is_moment_before c.args.before x.moment ≡ false) c.loop-entry.self.agenda
+          (awaited m place) c.in_default.ensures.none (s.agenda place m due),
     )

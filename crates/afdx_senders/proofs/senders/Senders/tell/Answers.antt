@@ -36,7 +36,7 @@ returns-clause-stands c at f y is next known stand =
     subst (λ (v : Waiting). AreFollowed (put_at place (told_next f v) at) c.tell.new.self) e t.1 in
     record {
       followed = followed;
-      agenda = awaited_next at to place None c.due-after.result c.args.self.now.agenda c.put_due.new.agenda
+      agenda = awaited_next at to place None c.due-after.result c.args.self.now.agenda c.put_due.new.self
           (λ k other. put_others at place (told_next f y) k other) (λ m no. absurd (cc))
           (c.due-after.ensures to followed) c.in_ok-put_due.ensures stand.agenda;
     }

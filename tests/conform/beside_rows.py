@@ -1,0 +1,125 @@
+"""Lists of what came to a switch and what left it, spelled out, with what `conform --senders` must
+answer of the switch and of the systems that sent.
+
+Lines are spelled as in sender_rows.py, what left too; there a frame of side B has the address of
+that side. The last line is spelled by its numbers: `2/0/0/0/2` is explained, open, uncertain, left
+out, idle, and `2/0/0` is sent, cut, alone.
+"""
+from __future__ import annotations
+
+from typing import NamedTuple
+
+from program import Answer
+from recorded_rows import HERE, RecordedRow, one, packet
+from recording_rows import IL9, SL
+from rows import answer_of
+from sender_rows import AFT, FWD, digits
+
+COUNTS = " sent {} cut {} alone {}\n"
+
+
+def with_systems(answer: Answer, sent: str) -> Answer:
+    """An answer of a switch, whose last line has these numbers of systems, too."""
+    if not sent:
+        return answer
+    return answer._replace(out=answer.out[:-1] + COUNTS.format(*sent.split("/")).encode())
+
+
+class BesideRow(NamedTuple):
+    """Options, lists, and what is answered: the lines, the last line's numbers, of the switch and
+    of systems, empty where it doesn't come, and what stands on standard error."""
+
+    name: str
+    options: str
+    came: str
+    left: str
+    lines: str
+    counts: str
+    sent: str
+    err: str = ""
+    config: str = "base"
+
+    def words(self) -> tuple[str, ...]:
+        """The words of the options."""
+        return ("--senders", *self.options.split())
+
+    def answer(self) -> Answer:
+        """What must be answered."""
+        answer = answer_of(self.lines, self.counts, self.err,
+                           is_exercised="--exercised" in self.words())
+        return with_systems(answer, self.sent)
+
+
+class BesideRecorded(NamedTuple):
+    """The same of recordings."""
+
+    row: RecordedRow
+    sent: str
+
+    def answer(self) -> Answer:
+        """What must be answered."""
+        return with_systems(self.row.answer(), self.sent)
+
+
+BOTH, BOTH_LEFT = "0 00 / 0 00 B", "F 6720 A 3 G1 / F 6720 B 3 G1"
+OF_AFT = "F 0 A 2 G2 / F 0 B 2 G2 / F 0 A 20 H1"
+OF_AFT_LEFT = "F 6720 A 3 G2 / F 6720 A 20 G2 / F 6720 B 3 G2 / F 6720 B 20 G2"
+OF_FWD_LEFT = "F 6720 A 24 G1 / F 6720 B 24 G1"
+BESIDE_ROWS = (
+    BesideRow("both are right", "", BOTH, BOTH_LEFT, "", "2/0/0/0/2", "2/0/0"),
+    BesideRow("systems before the switch, by moment", "--until 17001", "0 01 / 0 01 B",
+              "F 6720 B 3 G1(01) / F 17001 A 3 G1(01)",
+              "number 1 A 1 0 / number 2 B 1 0 / late 1 A 3 1", "1/0/0/0/2", "0/0/0"),
+    BesideRow("what came by a cable has no sender here", AFT, OF_AFT, OF_AFT_LEFT, "",
+              "4/1/0/0/2", "2/0/0", config="two"),
+    BesideRow("the switch before systems, by moment", "--until 200000000", "0 00", "",
+              "stopped 1 A 3 / single 1 A 1", "0/0/0/0/3", "0/0/0"),
+    BesideRow("at one port systems first", "", "0 01", "F 0 A 1 G2 / F 0 A 1 G1",
+              "number 1 A 1 0 / strange 1 A 1 not-its-port / strange 2 A 1 not-its-port",
+              "0/1/0/0/4", "0/1/0"),
+    BesideRow("at one moment by side", "", "0 01 B", "F 0 A 2 G1",
+              "strange 1 A 2 not-its-port / number 1 B 1 0", "0/1/0/0/4", "0/1/0"),
+    BesideRow("at one moment by port", "", "F 0 A 2 G2(01)", "F 0 A 1 G2 / F 0 A 4 G2",
+              "strange 1 A 1 not-its-port / number 1 A 2 0 / strange 2 A 4 not-its-port",
+              "0/1/0/0/4", "0/1/0"),
+    BesideRow("several of one frame stand together", "", "0 00 / 0 02",
+              "F 0 A 1 G2", "number 2 A 1 1 / soon 2 A 1 500000 / strange 1 A 1 not-its-port",
+              "0/1/0/0/4", "1/2/0"),
+    BesideRow("nothing is shown of the switch", "", BOTH, "", "", "0/2/0/0/4", "2/0/0"),
+    BesideRow("a stream is idle, and that matters", "--exercised", BOTH, BOTH_LEFT, "",
+              "2/0/0/0/2", "2/0/0"),
+    BesideRow("left out of both", "--leave-out 1", "0 09", "F 6720 A 3 G1", "", "0/0/0/2/4",
+              "0/0/0"),
+    BesideRow("a system alone is wrong", "", "F 0 A 1 G1+>20=20", "F 6720 A 3 G1+>20=20",
+              "unlawful 1 A 1 bad-ip-header", "1/0/0/0/3", "0/1/0"),
+    BesideRow("a distance that is given", "--apart 5", "0 00 / 6 00 B",
+              "F 6720 A 3 G1 / F 6726 B 3 G1", "apart 2 B 1 1", "2/0/0/0/2", "1/0/0"),
+    BesideRow("too far apart", "--apart 100000001", "0 00", "", "", "", "", "words BadNumber"),
+    BesideRow("a bad line of what left", "", "0 01", "F 5 A 3 G1(01) / F 0 A", "number 1 A 1 0", "",
+              "", "list left BadLine 2"),
+    BesideRow("a bad line of what came", "", "0 01 / F 5 A", "F 6720 A 3 G1(01)", "", "", "",
+              "list came BadLine 2"),
+    BesideRow("a switch of several and its systems", f"{FWD} --until 1000000", BOTH, OF_FWD_LEFT,
+              "", "2/0/0/0/2", "2/0/0", config="two"),
+    BesideRow("a cascade without a switch", "", BOTH, BOTH_LEFT, "", "", "", "words NoSuchSwitch",
+              "two"),
+)
+
+G1_HEX = digits("G1", "A")
+ONE_OF_BOTH = one((0, 0, G1_HEX), (1, 6720, G1_HEX))
+LATE_OF_BOTH = one((1, 17001, digits("G1(01)", "A")), (0, 0, digits("G1(01)", "A")))
+APART = (SL + IL9 + packet(0, 0, G1_HEX), SL + IL9 + packet(0, 6720, G1_HEX))
+BESIDE_RECORDED = (
+    BesideRecorded(RecordedRow("one recording of both", ONE_OF_BOTH, "", "1/0/0/0/0",
+                               options=f"--senders {HERE}"), "1/0/2"),
+    BesideRecorded(RecordedRow("of both, late and with a number", LATE_OF_BOTH,
+                               "number 2 A 1 0 / late 2 A 3 1", "0/0/0/0/0",
+                               options=f"--senders {HERE}"), "0/0/2"),
+    BesideRecorded(RecordedRow("two recordings", APART, "", "1/0/0/0/0",
+                               options="--senders --interface 0=A:1 --left 0=A:3"), "1/0/2"),
+    BesideRecorded(RecordedRow("a place of several switches", ONE_OF_BOTH, "", "",
+                               "words BadInterface",
+                               options="--senders --interface '0=A fwd:1' --left 1=A:3"), ""),
+    BesideRecorded(RecordedRow("no interface of what came", ONE_OF_BOTH, "", "",
+                               "words BadInterface", options="--senders --left 1=A:3"), ""),
+)
