@@ -18,9 +18,7 @@ pub use asked::{
     inputs_in, police_options, replay_options, send_words, solve_options, switch_in, wants_lists,
     wants_summary,
 };
-pub use conform_words::{
-    ConformOptions, conform_options, copies_apart, names_left, wants_senders,
-};
+pub use conform_words::{ConformOptions, conform_options, copies_apart, names_left, wants_senders};
 pub use misplaced::{BadPlace, Misplaced};
 pub use recording_words::{Refused, STANDARD_INPUT, pair_options, recording_options};
 pub use seen_words::{came_options, seen_options, seen_pair_options};

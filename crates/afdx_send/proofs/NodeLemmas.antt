@@ -34,7 +34,7 @@ module _ (time place : ℕ) (t : time < 0x10000000000000000) (p : place < 0x1000
       by true last true least =
           record {
             rank = (let e = eqb-true time greatest last in
-            let f = eqb-true place greatest least in omega (arith, e, f));
+                let f = eqb-true place greatest least in omega (arith, e, f));
             small = tt;
           }
       by true last false more = some_ranked (λ _ f. let g = eq-eqb place greatest f in absurd (cc (g, more)))

@@ -18,7 +18,7 @@ returns-then-too_old c = record {
   gives = λ p at ring so_far plan ends st transit.
       let g = c.take_at-departure.ensures.gives p at ring so_far plan st in
       turns-ended p c.take_at-departure.new.networks c.args.transit.now.items at ring so_far
-          c.args.first.switch.0 c.args.until
+      c.args.first.switch.0 c.args.until
       c.take_at-departure.result g transit
       (inl (sym (ap (λ (l : Left HeldFrame). l.too_old) g.hands.left) ∙ sym c.too_old.ensures
       ∙ c.if-too_old.true));
@@ -32,7 +32,7 @@ returns-then-time-gt-LATEST_ARRIVAL c = record {
   gives = λ p at ring so_far plan ends st transit.
       let g = c.take_at-departure.ensures.gives p at ring so_far plan st in
       turns-ended p c.take_at-departure.new.networks c.args.transit.now.items at ring so_far
-          c.args.first.switch.0 c.args.until
+      c.args.first.switch.0 c.args.until
       c.take_at-departure.result g transit
       (let t = c.time-time.ensures ∙ ap (λ (l : Left HeldFrame). l.end) g.hands.left in
       let late = c.if-time-gt-LATEST_ARRIVAL.true in inr (inr (omega (arith, t, late))));
@@ -48,7 +48,7 @@ returns-in-None c = record {
       let port : c.port-port.result ≡ g.departure.port = c.port-port.ensures ∙ g.hands.port in
       let k = c.args.first.switch.0 in
       turns-ended p c.take_at-departure.new.networks c.args.transit.now.items at ring so_far
-          c.args.first.switch.0 c.args.until
+      c.args.first.switch.0 c.args.until
       c.take_at-departure.result g transit
       (inr (inl (ends k g.departure.port g.next.port_last
       ∙ ap (λ n. end_of (entry_in (slice_get c.args.ends.now (k * 25 + n)))) (sym port)
@@ -71,7 +71,7 @@ returns-in-Some c = record {
       ∙ ap (λ n. end_of (entry_in (slice_get c.args.ends.now (k * 25 + n)))) (sym port)
       ∙ ap end_of (sym c.far_end.ensures ∙ c.in-Some.is) in
       turns-carried p c.take_at-departure.new.networks c.args.transit.now.items at ring so_far
-          c.args.first.switch.0 c.args.until
+      c.args.first.switch.0 c.args.until
       c.take_at-departure.result g transit
       (record {
         switch = c.args.first.switch;

@@ -20,8 +20,12 @@ returns-clause-done g c = λ k start past h.
     let frames = frames_of past in
     let all = c.in_ok-finish.ensures k frames h.0
     (none-due-yet k (latest_of frames) c.args.self.now frames h.0 c.new-due.ensures.items (h.1.works, h.1.stands)) in
-    on-ok (λ put. (told_by c.finish.new.due.items h.0, all, tells-by start _ _ h.0 h.2 c.finish.new.due.items
-    c.as_slice.ensures.value put))
+    on-ok (λ put. (
+      told_by c.finish.new.due.items h.0,
+      all,
+      tells-by start _ _ h.0 h.2 c.finish.new.due.items
+          c.as_slice.ensures.value put,
+    ))
     c.put_due.result c.put_due.ensures.told
 
 pub returns-clause-begins : goal.returns-clause-begins
