@@ -3,9 +3,11 @@ at once. The first byte is the lowest of the number.
 """
 from __future__ import annotations
 
+from typing import TypeAlias
+
 import numpy as np
 
-Eights = np.ndarray  # of uint64
+Eights: TypeAlias = np.ndarray  # of uint64
 ONES = np.uint64(0x0101_0101_0101_0101)
 HIGHEST = np.uint64(0x8080_8080_8080_8080)  # the highest bit of each byte
 ZEROS = np.uint64(ord("0")) * ONES
