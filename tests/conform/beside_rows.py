@@ -12,7 +12,7 @@ from typing import NamedTuple
 from program import Answer
 from recorded_rows import HERE, RecordedRow, one, packet
 from recording_rows import IL9, SL
-from rows import answer_of
+from rows import Row
 from sender_rows import AFT, FWD, digits
 
 COUNTS = " sent {} cut {} alone {}\n"
@@ -26,28 +26,14 @@ def with_systems(answer: Answer, sent: str) -> Answer:
 
 
 class BesideRow(NamedTuple):
-    """Options, lists, and what is answered: the lines, the last line's numbers, of the switch and
-    of systems, empty where it doesn't come, and what stands on standard error."""
+    """A row of a switch, and the numbers of systems in its last line."""
 
-    name: str
-    options: str
-    came: str
-    left: str
-    lines: str
-    counts: str
+    row: Row
     sent: str
-    err: str = ""
-    config: str = "base"
-
-    def words(self) -> tuple[str, ...]:
-        """The words of the options."""
-        return ("--senders", *self.options.split())
 
     def answer(self) -> Answer:
         """What must be answered."""
-        answer = answer_of(self.lines, self.counts, self.err,
-                           is_exercised="--exercised" in self.words())
-        return with_systems(answer, self.sent)
+        return with_systems(self.row.answer(), self.sent)
 
 
 class BesideRecorded(NamedTuple):
@@ -66,43 +52,46 @@ OF_AFT = "F 0 A 2 G2 / F 0 B 2 G2 / F 0 A 20 H1"
 OF_AFT_LEFT = "F 6720 A 3 G2 / F 6720 A 20 G2 / F 6720 B 3 G2 / F 6720 B 20 G2"
 OF_FWD_LEFT = "F 6720 A 24 G1 / F 6720 B 24 G1"
 BESIDE_ROWS = (
-    BesideRow("both are right", "", BOTH, BOTH_LEFT, "", "2/0/0/0/2", "2/0/0"),
-    BesideRow("systems before the switch, by moment", "--until 17001", "0 01 / 0 01 B",
-              "F 6720 B 3 G1(01) / F 17001 A 3 G1(01)",
-              "number 1 A 1 0 / number 2 B 1 0 / late 1 A 3 1", "1/0/0/0/2", "0/0/0"),
-    BesideRow("what came by a cable has no sender here", AFT, OF_AFT, OF_AFT_LEFT, "",
-              "4/1/0/0/2", "2/0/0", config="two"),
-    BesideRow("the switch before systems, by moment", "--until 200000000", "0 00", "",
-              "stopped 1 A 3 / single 1 A 1", "0/0/0/0/3", "0/0/0"),
-    BesideRow("at one port systems first", "", "0 01", "F 0 A 1 G2 / F 0 A 1 G1",
-              "number 1 A 1 0 / strange 1 A 1 not-its-port / strange 2 A 1 not-its-port",
-              "0/1/0/0/4", "0/1/0"),
-    BesideRow("at one moment by side", "", "0 01 B", "F 0 A 2 G1",
-              "strange 1 A 2 not-its-port / number 1 B 1 0", "0/1/0/0/4", "0/1/0"),
-    BesideRow("at one moment by port", "", "F 0 A 2 G2(01)", "F 0 A 1 G2 / F 0 A 4 G2",
-              "strange 1 A 1 not-its-port / number 1 A 2 0 / strange 2 A 4 not-its-port",
-              "0/1/0/0/4", "0/1/0"),
-    BesideRow("several of one frame stand together", "", "0 00 / 0 02",
-              "F 0 A 1 G2", "number 2 A 1 1 / soon 2 A 1 500000 / strange 1 A 1 not-its-port",
-              "0/1/0/0/4", "1/2/0"),
-    BesideRow("nothing is shown of the switch", "", BOTH, "", "", "0/2/0/0/4", "2/0/0"),
-    BesideRow("a stream is idle, and that matters", "--exercised", BOTH, BOTH_LEFT, "",
-              "2/0/0/0/2", "2/0/0"),
-    BesideRow("left out of both", "--leave-out 1", "0 09", "F 6720 A 3 G1", "", "0/0/0/2/4",
-              "0/0/0"),
-    BesideRow("a system alone is wrong", "", "F 0 A 1 G1+>20=20", "F 6720 A 3 G1+>20=20",
-              "unlawful 1 A 1 bad-ip-header", "1/0/0/0/3", "0/1/0"),
-    BesideRow("a distance that is given", "--apart 5", "0 00 / 6 00 B",
-              "F 6720 A 3 G1 / F 6726 B 3 G1", "apart 2 B 1 1", "2/0/0/0/2", "1/0/0"),
-    BesideRow("too far apart", "--apart 100000001", "0 00", "", "", "", "", "words BadNumber"),
-    BesideRow("a bad line of what left", "", "0 01", "F 5 A 3 G1(01) / F 0 A", "number 1 A 1 0", "",
-              "", "list left BadLine 2"),
-    BesideRow("a bad line of what came", "", "0 01 / F 5 A", "F 6720 A 3 G1(01)", "", "", "",
-              "list came BadLine 2"),
-    BesideRow("a switch of several and its systems", f"{FWD} --until 1000000", BOTH, OF_FWD_LEFT,
-              "", "2/0/0/0/2", "2/0/0", config="two"),
-    BesideRow("a cascade without a switch", "", BOTH, BOTH_LEFT, "", "", "", "words NoSuchSwitch",
-              "two"),
+    BesideRow(Row("both are right", "--senders", BOTH, BOTH_LEFT, "", "2/0/0/0/2"), "2/0/0"),
+    BesideRow(Row("systems before the switch, by moment", "--senders --until 17001",
+                  "0 01 / 0 01 B", "F 6720 B 3 G1(01) / F 17001 A 3 G1(01)",
+                  "number 1 A 1 0 / number 2 B 1 0 / late 1 A 3 1", "1/0/0/0/2"), "0/0/0"),
+    BesideRow(Row("what came by a cable has no sender here", f"--senders {AFT}", OF_AFT,
+                  OF_AFT_LEFT, "", "4/1/0/0/2", config="two"), "2/0/0"),
+    BesideRow(Row("the switch before systems, by moment", "--senders --until 200000000", "0 00",
+                  "", "stopped 1 A 3 / single 1 A 1", "0/0/0/0/3"), "0/0/0"),
+    BesideRow(Row("at one port systems first", "--senders", "0 01", "F 0 A 1 G2 / F 0 A 1 G1",
+                  "number 1 A 1 0 / strange 1 A 1 not-its-port / strange 2 A 1 not-its-port",
+                  "0/1/0/0/4"), "0/1/0"),
+    BesideRow(Row("at one moment by side", "--senders", "0 01 B", "F 0 A 2 G1",
+                  "strange 1 A 2 not-its-port / number 1 B 1 0", "0/1/0/0/4"), "0/1/0"),
+    BesideRow(Row("at one moment by port", "--senders", "F 0 A 2 G2(01)",
+                  "F 0 A 1 G2 / F 0 A 4 G2",
+                  "strange 1 A 1 not-its-port / number 1 A 2 0 / strange 2 A 4 not-its-port",
+                  "0/1/0/0/4"), "0/1/0"),
+    BesideRow(Row("several of one frame stand together", "--senders", "0 00 / 0 02", "F 0 A 1 G2",
+                  "number 2 A 1 1 / soon 2 A 1 500000 / strange 1 A 1 not-its-port", "0/1/0/0/4"),
+              "1/2/0"),
+    BesideRow(Row("nothing is shown of the switch", "--senders", BOTH, "", "", "0/2/0/0/4"),
+              "2/0/0"),
+    BesideRow(Row("a stream is idle, and that matters", "--senders --exercised", BOTH, BOTH_LEFT,
+                  "", "2/0/0/0/2"), "2/0/0"),
+    BesideRow(Row("left out of both", "--senders --leave-out 1", "0 09", "F 6720 A 3 G1", "",
+                  "0/0/0/2/4"), "0/0/0"),
+    BesideRow(Row("a system alone is wrong", "--senders", "F 0 A 1 G1+>20=20",
+                  "F 6720 A 3 G1+>20=20", "unlawful 1 A 1 bad-ip-header", "1/0/0/0/3"), "0/1/0"),
+    BesideRow(Row("a distance that is given", "--senders --apart 5", "0 00 / 6 00 B",
+                  "F 6720 A 3 G1 / F 6726 B 3 G1", "apart 2 B 1 1", "2/0/0/0/2"), "1/0/0"),
+    BesideRow(Row("too far apart", "--senders --apart 100000001", "0 00", "", "", "",
+                  "words BadNumber"), ""),
+    BesideRow(Row("a bad line of what left", "--senders", "0 01", "F 5 A 3 G1(01) / F 0 A",
+                  "number 1 A 1 0", "", "list left BadLine 2"), ""),
+    BesideRow(Row("a bad line of what came", "--senders", "0 01 / F 5 A", "F 6720 A 3 G1(01)", "",
+                  "", "list came BadLine 2"), ""),
+    BesideRow(Row("a switch of several and its systems", f"--senders {FWD} --until 1000000", BOTH,
+                  OF_FWD_LEFT, "", "2/0/0/0/2", config="two"), "2/0/0"),
+    BesideRow(Row("a cascade without a switch", "--senders", BOTH, BOTH_LEFT, "", "",
+                  "words NoSuchSwitch", "two"), ""),
 )
 
 G1_HEX = digits("G1", "A")

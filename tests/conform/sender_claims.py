@@ -46,9 +46,10 @@ def sender_row_holds(judge: Judge, row: SenderRow) -> None:
     answers(found, wanted.status, wanted.out, wanted.err)
 
 
-def beside_row_holds(judge: Judge, row: BesideRow) -> None:
+def beside_row_holds(judge: Judge, each: BesideRow) -> None:
     """It answers as the row spells out of a switch and its systems."""
-    wanted, came, left = row.answer(), list_of(row.came), list_of(row.left)
+    row, wanted = each.row, each.answer()
+    came, left = list_of(row.came), list_of(row.left)
     found = answer_of(judge, came, left, row.words(), SENDER_CONFIGS[row.config])
     answers(found, wanted.status, wanted.out, wanted.err)
 
@@ -173,8 +174,8 @@ def beside_cases(judge: Judge, who: str) -> list[tuple]:
     """What a judge must answer of a switch and its systems, if it judges both."""
     if judge.program is not None and judge.program.knows("conform", ALONE):
         return []
-    cases: list[tuple] = [(f"{who}, beside its systems: {row.name}", beside_row_holds, judge, row)
-                          for row in BESIDE_ROWS]
+    cases: list[tuple] = [(f"{who}, beside its systems: {each.row.name}", beside_row_holds, judge,
+                           each) for each in BESIDE_ROWS]
     if judge.program is not None:
         cases += [(f"{who}, beside its systems: {each.row.name}", beside_recorded_holds, judge,
                    each) for each in BESIDE_RECORDED]

@@ -4,12 +4,12 @@ from __future__ import annotations
 
 from collections.abc import Iterator
 
-from beside_rows import BESIDE_ROWS, BesideRow
+from beside_rows import BESIDE_ROWS
 from conform import conform
 from conform_claims import pair_of
 from hostile_lists import LISTS
 from program import Program
-from rows import CONFIGS, ROWS, list_of
+from rows import CONFIGS, ROWS, Row, list_of
 from sender_rows import SENDER_CONFIGS
 from sender_rows import list_of as sent_by
 from senders import conform_senders
@@ -75,8 +75,8 @@ def weak_list(
     weak_devices(judge(program, pair, place, by_path))
 
 
-def pair_beside(row: BesideRow) -> Pair:
-    """A row's configuration, lists and options."""
+def pair_beside(row: Row) -> Pair:
+    """A row's configuration, lists and options, where systems are judged, too."""
     return Pair(SENDER_CONFIGS[row.config], sent_by(row.came), sent_by(row.left), row.words())
 
 
@@ -97,7 +97,7 @@ def weak_lists(program: Program) -> Iterator[tuple]:
             given = program, pair_of(rows[name]), place, by_path
             yield f"conform, {side} is weak: {name}", weak_list, *given
         by_path = not by_path
-    beside = {row.name: row for row in BESIDE_ROWS}
+    beside = {each.row.name: each.row for each in BESIDE_ROWS}
     for name in TRIED_BESIDE:
         for place, side in enumerate(LISTS):
             by_path = not by_path
