@@ -189,19 +189,19 @@ has-stream n z xs ys counts old new b idle h are unsure idle-is i e w u s = reco
 module _ (t : Rows) (c : Choices) (until : ℕ) (frames : List Frame) where
   -- by what is given to it
   pub given-counted : (side : Side) (place port : ℕ) (l : LinkRow) → link_to t place port ≡ Some l
-      → is_judged t c.taps side l port ≡ true
+      → is_judged t c.sight side l port ≡ true
       → stream_counted (terms_at t c until l port) (given_of t c frames (key_with side port (Some place))).came
       (given_of t c frames (key_with side port (Some place))).left ≡ counted_at t c until frames side l port
   unfolding given_of counted_at
   given-counted side place port l to judged =
       ap (λ o. stream_counted (terms_at t c until l port) (given_to t c (key_with side port (Some place)) frames o).came
-      (given_to t c (key_with side port (Some place)) frames o).left) (to-judged t c.taps side place port l to judged)
+      (given_to t c (key_with side port (Some place)) frames o).left) (to-judged t c.sight side place port l to judged)
       ∙ sym (ap (λ b. if b then stream_counted (terms_at t c until l port)
       (given_to t c (key_with side port (Some place)) frames (Some l)).came
       (given_to t c (key_with side port (Some place)) frames (Some l)).left else none_counted) judged)
 
   -- one that isn't judged
-  pub unjudged-counted : (side : Side) (port : ℕ) (l : LinkRow) → is_judged t c.taps side l port ≡ false
+  pub unjudged-counted : (side : Side) (port : ℕ) (l : LinkRow) → is_judged t c.sight side l port ≡ false
       → counted_at t c until frames side l port ≡ none_counted
   unfolding counted_at
   unjudged-counted side port l e =
@@ -265,13 +265,13 @@ more-found n more old new before here = omega (arith, before, here)
 -- without more findings
 pub no-more : (k : Rows × Choices) (frames : List Frame) (dues : List Due)
     → totals_and 0 k frames dues ≡ totals_of k frames dues
-no-more k frames dues = ap (λ (n : ℕ). totals_with n (left_out_of k.0 k.1 frames) (unseen_of k.0 k.1.taps) k.1.exercised
+no-more k frames dues = ap (λ (n : ℕ). totals_with n (left_out_of k.0 k.1 frames) (unseen_of k.0 k.1.sight) k.1.exercised
     (counted_of k.0 k.1 (until_or k.1.until frames) frames)) (omega arith)
 
 pub totals-are : (more : ℕ) (k : Rows × Choices) (frames : List Frame) (dues : List Due) (totals : Totals)
     → totals.findings ≡ min (findings_in (lines_of dues) + more) most_counted
     → totals.left_out ≡ min (left_out_of k.0 k.1 frames) most_counted
-    → totals.unseen ≡ unseen_of k.0 k.1.taps
+    → totals.unseen ≡ unseen_of k.0 k.1.sight
     → totals.is_exercised ≡ k.1.exercised
     → HasCounted (counted_of k.0 k.1 (until_or k.1.until frames) frames) totals
     → totals ≡ totals_and more k frames dues

@@ -124,7 +124,7 @@ module _ (t : Rows) (c : Choices) (frames : List Frame) where
         by : (o : Option ℕ) → IsOfLink t k l o
             → AreTold (terms_at t c until l k.port) (given_by t c frames k o).came (given_by t c frames k o).left
         by None h = absurd h
-        by (Some place) h = told-to (terms_at t c until l k.port) k (judged_to t c.taps k.side place k.port) refl
+        by (Some place) h = told-to (terms_at t c until l k.port) k (judged_to t c.sight k.side place k.port) refl
 
 -- ---- the lines of a key
 

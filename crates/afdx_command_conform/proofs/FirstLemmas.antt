@@ -93,7 +93,7 @@ module _ (t : Rows) (c : Choices) (more frames : List Frame) where
       by : (o : Option ℕ) → (given_by t c (more ++ frames) k o).came ≡ (given_by t c frames k o).came
           ++ (given_by t c more k o).came
       by None = refl
-      by (Some place) = came-to-both k (judged_to t c.taps k.side place k.port)
+      by (Some place) = came-to-both k (judged_to t c.sight k.side place k.port)
 
   pub left-both : (k : Key) → (given_of t c (more ++ frames) k).left ≡ (given_of t c frames k).left
       ++ (given_of t c more k).left
@@ -103,15 +103,15 @@ module _ (t : Rows) (c : Choices) (more frames : List Frame) where
       by : (o : Option ℕ) → (given_by t c (more ++ frames) k o).left ≡ (given_by t c frames k o).left
           ++ (given_by t c more k o).left
       by None = refl
-      by (Some place) = left-to-both k (judged_to t c.taps k.side place k.port)
+      by (Some place) = left-to-both k (judged_to t c.sight k.side place k.port)
 
   pub strange-both : (k : Key) → map (stranger_due t k) (strangers_of t c k.side k.port (more ++ frames))
       ≡ map (stranger_due t k) (strangers_of t c k.side k.port more) ++ map (stranger_due t k)
       (strangers_of t c k.side k.port frames)
   strange-both k =
-      let test : Frame → Bool = λ x. left_at k.side k.port x && is_stranger t c.taps x.arrival in
+      let test : Frame → Bool = λ x. left_at k.side k.port x && is_stranger t c.sight x.arrival in
       ap (λ fs. map (stranger_due t k) (map (λ (x : Frame). x.arrival) (filter
-      (λ x. left_at k.side k.port x && is_stranger t c.taps x.arrival) fs)))
+      (λ x. left_at k.side k.port x && is_stranger t c.sight x.arrival) fs)))
       counted-both
       ∙ ap (λ fs. map (stranger_due t k) (map (λ (x : Frame). x.arrival) fs)) (filter-append test (counted t c more)
       (counted t c frames))
@@ -122,7 +122,7 @@ module _ (t : Rows) (c : Choices) (more frames : List Frame) where
   -- where none counts it is the same
   pub same-counted : (k : Key) → counted t c more ≡ [] → given_of t c (more ++ frames) k ≡ given_of t c frames k
   same-counted k none = given-from t c (more ++ frames) k
-      ∙ ap (λ fs. given_from t c.taps k fs k.link) (counted-both ∙ ap (λ l. l ++ counted t c frames) none)
+      ∙ ap (λ fs. given_from t c.sight k fs k.link) (counted-both ∙ ap (λ l. l ++ counted t c frames) none)
       ∙ sym (given-from t c frames k)
 
 module _ (t : Rows) (c : Choices) (time : ℕ) (more : List Frame) (late : ComeFrom time more) where
@@ -149,7 +149,7 @@ module _ (t : Rows) (c : Choices) (time : ℕ) (more : List Frame) (late : ComeF
     where
       by : (o : Option ℕ) → AllByRecursion (λ x. time ≤ x.time) (given_by t c more k o).came
       by None = tt
-      by (Some place) = came-to-late k (judged_to t c.taps k.side place k.port)
+      by (Some place) = came-to-late k (judged_to t c.sight k.side place k.port)
 
   pub left-late : (k : Key) → AllByRecursion (λ y. time ≤ y.time) (given_of t c more k).left
   unfolding given_of
@@ -157,18 +157,18 @@ module _ (t : Rows) (c : Choices) (time : ℕ) (more : List Frame) (late : ComeF
     where
       by : (o : Option ℕ) → AllByRecursion (λ y. time ≤ y.time) (given_by t c more k o).left
       by None = tt
-      by (Some place) = left-to-late k (judged_to t c.taps k.side place k.port)
+      by (Some place) = left-to-late k (judged_to t c.sight k.side place k.port)
 
   pub strange-late : (k : Key) (Q : ℕ → Type 0) → ((a b : ℕ) → a ≤ b → Q a → Q b) → Q time
       → AllByRecursion (λ d. Q d.moment × (d.key ≡ k)) (map (stranger_due t k) (strangers_of t c k.side k.port more))
   strange-late k Q up here =
       every-map (λ d. Q d.moment × (d.key ≡ k)) (stranger_due t k) (strangers_of t c k.side k.port more)
       (every-map (λ (x : Arrival). Q x.time × (k ≡ k)) (λ (x : Frame). x.arrival)
-      (filter (λ x. left_at k.side k.port x && is_stranger t c.taps x.arrival) (counted t c more))
+      (filter (λ x. left_at k.side k.port x && is_stranger t c.sight x.arrival) (counted t c more))
       (every-on (λ x. time ≤ x.arrival.time) (λ x. Q x.arrival.time × (k ≡ k))
       (λ x le. (up time x.arrival.time le here, refl))
-      (filter (λ x. left_at k.side k.port x && is_stranger t c.taps x.arrival) (counted t c more))
-      (passed-late (λ x. left_at k.side k.port x && is_stranger t c.taps x.arrival))))
+      (filter (λ x. left_at k.side k.port x && is_stranger t c.sight x.arrival) (counted t c more))
+      (passed-late (λ x. left_at k.side k.port x && is_stranger t c.sight x.arrival))))
 
   -- behind the end that is said none counts
   pub none-counts : (end : ℕ) → c.until ≡ Some end → end < time → counted t c more ≡ []
@@ -212,8 +212,8 @@ module _ (t : Rows) (c : Choices) (until : ℕ) (frames : List Frame) where
           ≡ judged_dues (terms_at t c until l k.port) k
           (judged_of (terms_at t c until l k.port) (given_by t c frames k o).came (given_by t c frames k o).left)
       by None h = absurd h
-      by (Some place) h = judged (judged_to t c.taps k.side place k.port)
-          (elim (judged-cases t c.taps k.side place k.port l h) [
+      by (Some place) h = judged (judged_to t c.sight k.side place k.port)
+          (elim (judged-cases t c.sight k.side place k.port l h) [
             | inl is ↦ inl is.0
             | inr is ↦ inr is.0
           ])
@@ -229,7 +229,7 @@ module _ (t : Rows) (c : Choices) (until : ℕ) (frames : List Frame) where
       by : (o : Option ℕ) → is_known_by t k o ≡ false → dues_by t c until frames k o ≡ []
       by None e = absurd (true≢false (sym (lt-ltb k.port 256 small) ∙ e))
       by (Some place) e = ap (λ r. option_map_or (stream_dues t c until frames k) r [])
-          (no-stream t c.taps k.side place k.port (no-link (link_to t place k.port) e))
+          (no-stream t c.sight k.side place k.port (no-link (link_to t place k.port) e))
 
 pub is-small : (t : Rows) (k : Key) → IsLawfulSwitch t → is_known t k ≡ true → k.port < 256
 unfolding is_known
@@ -294,7 +294,7 @@ module _ (t : Rows) (c : Choices) (until time : ℕ) (more frames : List Frame) 
     | inl no-link ↦ strange-behind (Some until) no-link
         (subst (λ fs. AllByRecursion (λ d. Q d.moment × (d.key ≡ k))
         (map (stranger_due t k) (map (λ (x : Frame). x.arrival)
-        (filter (λ x. left_at k.side k.port x && is_stranger t c.taps x.arrival) fs)))) (sym none) tt) are
+        (filter (λ x. left_at k.side k.port x && is_stranger t c.sight x.arrival) fs)))) (sym none) tt) are
     | inr of ↦
         (let z = terms_at t c until of.0 k.port in
         subst (λ l. IsBehind k Q (of_key k dues) l)

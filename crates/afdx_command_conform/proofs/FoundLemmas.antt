@@ -96,12 +96,12 @@ no-strangers t k (x ∷ xs) h = absurd (true≢false h.0)
 
 module _ (t : Rows) (c : Choices) (until : ℕ) (frames : List Frame) (lawful : IsLawfulSwitch t) (lines : List Due)
     (are : AreLines t c until frames lines) where
-  port-of : (side : Side) (place port : ℕ) (l : LinkRow) → judged_to t c.taps side place port ≡ Some l → port < 256
+  port-of : (side : Side) (place port : ℕ) (l : LinkRow) → judged_to t c.sight side place port ≡ Some l → port < 256
   port-of side place port l is =
       let at = (link-place t place port lawful (ap (λ o. is_some o) (judged-link t c side place port l is))).1 in
       omega (arith, at)
 
-  pub stream-lines : (side : Side) (place port : ℕ) (l : LinkRow) → judged_to t c.taps side place port ≡ Some l
+  pub stream-lines : (side : Side) (place port : ℕ) (l : LinkRow) → judged_to t c.sight side place port ≡ Some l
       → of_key (key_with side port (Some place)) lines
       ≡ judged_dues (terms_at t c until l port) (key_with side port (Some place))
       (judged_at t c until frames l side port)
@@ -133,19 +133,19 @@ module _ (t : Rows) (c : Choices) (until : ℕ) (frames : List Frame) (lawful : 
   -- what is so of the lines of each stream and of what is of none is so of all
   pub of-all : (P : Due → Type 0)
       → ((k : Key) → k.port < 256 → AllByRecursion P (map (stranger_due t k) (strangers_of t c k.side k.port frames)))
-      → ((k : Key) (place : ℕ) (l : LinkRow) → judged_to t c.taps k.side place k.port ≡ Some l
+      → ((k : Key) (place : ℕ) (l : LinkRow) → judged_to t c.sight k.side place k.port ≡ Some l
       → AllByRecursion P (judged_dues (terms_at t c until l k.port) k (judged_at t c until frames l k.side k.port)))
       → AllByRecursion P lines
   of-all P strange stream = of-each-key P lines (λ k. by k (nat_lt k.port 256) refl)
     where
-      judged : (k : Key) (place : ℕ) (o : Option LinkRow) → judged_to t c.taps k.side place k.port ≡ o
+      judged : (k : Key) (place : ℕ) (o : Option LinkRow) → judged_to t c.sight k.side place k.port ≡ o
           → AllByRecursion P (option_map_or (stream_dues t c until frames k) o [])
       judged k place None is = tt
       judged k place (Some l) is = stream k place l is
 
       dues : (k : Key) → k.port < 256 → (o : Option ℕ) → AllByRecursion P (dues_by t c until frames k o)
       dues k small None = strange k small
-      dues k small (Some place) = judged k place (judged_to t c.taps k.side place k.port) refl
+      dues k small (Some place) = judged k place (judged_to t c.sight k.side place k.port) refl
 
       by : (k : Key) (b : Bool) → nat_lt k.port 256 ≡ b → AllByRecursion P (of_key k lines)
       by k true e =
@@ -185,7 +185,7 @@ module _ (t : Rows) (c : Choices) (until : ℕ) (frames : List Frame) (lawful : 
           (left (unsure_dues z k (reverse j.arrivals)) (map (found_due z k) j.findings) h))
       by false is h = is
 
-  pub sure-of-none : lines ≡ [] → (side : Side) (place port : ℕ) (l : LinkRow) → judged_to t c.taps side place port
+  pub sure-of-none : lines ≡ [] → (side : Side) (place port : ℕ) (l : LinkRow) → judged_to t c.sight side place port
       ≡ Some l
       → (judged_at t c until frames l side port).is_unsure ≡ false
   sure-of-none e side place port l is =

@@ -98,7 +98,7 @@ module _ (t : Rows) (c : Choices) (until : ℕ) (time to : ℕ) (le : time ≤ t
     lawful = stand.lawful;
     tables = stand.tables;
     by = stand.by;
-    taps = stand.taps;
+    sight = stand.sight;
     kept = kept-later s.ended (given_of t c frames) dues s.kept stand.kept;
   }
 
@@ -111,14 +111,14 @@ stand-skipped t c until time x frames dues s none stand = record {
   lawful = stand.lawful;
   tables = stand.tables;
   by = stand.by;
-  taps = stand.taps;
+  sight = stand.sight;
   kept = kept-same t c until s.ended time (given_of t c frames) (given_of t c (x ∷ frames)) dues s.kept
       (λ k known. same k)
       (λ k. subst (λ g. AreFalling g.strange) (sym (same k)) (stand.kept.falling k)) stand.kept;
 }
   where
     same : (k : Key) → given_of t c (x ∷ frames) k ≡ given_of t c frames k
-    same k = given-from t c (x ∷ frames) k ∙ ap (λ fs. given_from t c.taps k fs k.link) (counted-less t c x frames none)
+    same k = given-from t c (x ∷ frames) k ∙ ap (λ fs. given_from t c.sight k fs k.link) (counted-less t c x frames none)
         ∙ sym (given-from t c frames k)
 
 -- ---- lines

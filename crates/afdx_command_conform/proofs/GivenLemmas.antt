@@ -23,7 +23,8 @@ use Rattle.afdx_command_conform.specs.Keeping.{AreKept, Given, KeyStands, given_
 use Rattle.afdx_command_conform.specs.Keys.{is_link}
 use Rattle.afdx_command_conform.specs.Lines.{Due, of_key, stranger_due}
 use Rattle.afdx_command_conform.specs.Slots.{AreFalling}
-use Rattle.afdx_command_conform.specs.Tapped.{Taps, judged_to}
+use Rattle.afdx_command_conform.specs.Sight.{Sight}
+use Rattle.afdx_command_conform.specs.Tapped.{judged_to}
 use Rattle.afdx_command_conform.specs.declared.kept.KeptByKey.{KeptByKey}
 use Rattle.afdx_command_conform.specs.declared.key.Key.{Key}
 use Rattle.afdx_command_conform.proofs.KeyLemmas.{system-at}
@@ -58,14 +59,14 @@ linked k fs (Some l) = given_with (reverse (map (λ x. x.arrival) (filter (is_ar
     (reverse (map (λ x. gone_of x.arrival) (filter (λ x. left_at k.side k.port x && names l.vl x.arrival.bytes) fs))) []
 
 -- what these frames give
-abbrev pub given_from : Rows → Taps → Key → List Frame → Option ℕ → Given
-given_from t taps k fs None = given_with [] []
+abbrev pub given_from : Rows → Sight → Key → List Frame → Option ℕ → Given
+given_from t sight k fs None = given_with [] []
     (map (stranger_due t k)
-    (map (λ x. x.arrival) (filter (λ x. left_at k.side k.port x && is_stranger t taps x.arrival) fs)))
-given_from t taps k fs (Some place) = linked k fs (judged_to t taps k.side place k.port)
+    (map (λ x. x.arrival) (filter (λ x. left_at k.side k.port x && is_stranger t sight x.arrival) fs)))
+given_from t sight k fs (Some place) = linked k fs (judged_to t sight k.side place k.port)
 
 pub given-from : (t : Rows) (c : Choices) (frames : List Frame) (k : Key)
-    → given_of t c frames k ≡ given_from t c.taps k (counted t c frames) k.link
+    → given_of t c frames k ≡ given_from t c.sight k (counted t c frames) k.link
 unfolding given_of
 given-from t c frames k = by k.link
   where
@@ -73,9 +74,9 @@ given-from t c frames k = by k.link
     by-link None = refl
     by-link (Some l) = refl
 
-    by : (o : Option ℕ) → given_by t c frames k o ≡ given_from t c.taps k (counted t c frames) o
+    by : (o : Option ℕ) → given_by t c frames k o ≡ given_from t c.sight k (counted t c frames) o
     by None = refl
-    by (Some place) = by-link (judged_to t c.taps k.side place k.port)
+    by (Some place) = by-link (judged_to t c.sight k.side place k.port)
 
 pub counted-more : (t : Rows) (c : Choices) (x : Frame) (frames : List Frame) → counts t c x ≡ true
     → counted t c (x ∷ frames) ≡ x ∷ counted t c frames
@@ -192,9 +193,9 @@ module _ (t : Rows) (c : Choices) (frames : List Frame) (time : ℕ)
           (filter (is_arrival_of l.vl k.side) (counted t c frames))
           (all-filter (λ x. x.arrival.time ≤ time) (is_arrival_of l.vl k.side) (counted t c frames) all))
 
-      by : (o : Option ℕ) → AllByRecursion (λ x. x.time ≤ time) (given_from t c.taps k (counted t c frames) o).came
+      by : (o : Option ℕ) → AllByRecursion (λ x. x.time ≤ time) (given_from t c.sight k (counted t c frames) o).came
       by None = tt
-      by (Some place) = by-link (judged_to t c.taps k.side place k.port)
+      by (Some place) = by-link (judged_to t c.sight k.side place k.port)
 
   pub left-times : AllByRecursion (λ y. y.time ≤ time) (given_of t c frames k).left
   left-times = subst (λ g. AllByRecursion (λ y. y.time ≤ time) g.left) (sym (given-from t c frames k)) (by k.link)
@@ -209,9 +210,9 @@ module _ (t : Rows) (c : Choices) (frames : List Frame) (time : ℕ)
           (all-filter (λ x. x.arrival.time ≤ time) (λ x. left_at k.side k.port x && names l.vl x.arrival.bytes)
           (counted t c frames) all))
 
-      by : (o : Option ℕ) → AllByRecursion (λ y. y.time ≤ time) (given_from t c.taps k (counted t c frames) o).left
+      by : (o : Option ℕ) → AllByRecursion (λ y. y.time ≤ time) (given_from t c.sight k (counted t c frames) o).left
       by None = tt
-      by (Some place) = by-link (judged_to t c.taps k.side place k.port)
+      by (Some place) = by-link (judged_to t c.sight k.side place k.port)
 
   pub strange-times : AllByRecursion (λ d. d.moment ≤ time) (given_of t c frames k).strange
   strange-times = subst (λ g. AllByRecursion (λ d. d.moment ≤ time) g.strange) (sym (given-from t c frames k))
@@ -221,15 +222,15 @@ module _ (t : Rows) (c : Choices) (frames : List Frame) (time : ℕ)
       by-link None = tt
       by-link (Some l) = tt
 
-      by : (o : Option ℕ) → AllByRecursion (λ d. d.moment ≤ time) (given_from t c.taps k (counted t c frames) o).strange
+      by : (o : Option ℕ) → AllByRecursion (λ d. d.moment ≤ time) (given_from t c.sight k (counted t c frames) o).strange
       by None = all-map (λ d. d.moment ≤ time) (stranger_due t k)
-          (map (λ x. x.arrival) (filter (λ x. left_at k.side k.port x && is_stranger t c.taps x.arrival)
+          (map (λ x. x.arrival) (filter (λ x. left_at k.side k.port x && is_stranger t c.sight x.arrival)
           (counted t c frames)))
           (all-map (λ x. x.time ≤ time) (λ (x : Frame). x.arrival)
-          (filter (λ x. left_at k.side k.port x && is_stranger t c.taps x.arrival) (counted t c frames))
-          (all-filter (λ x. x.arrival.time ≤ time) (λ x. left_at k.side k.port x && is_stranger t c.taps x.arrival)
+          (filter (λ x. left_at k.side k.port x && is_stranger t c.sight x.arrival) (counted t c frames))
+          (all-filter (λ x. x.arrival.time ≤ time) (λ x. left_at k.side k.port x && is_stranger t c.sight x.arrival)
           (counted t c frames) all))
-      by (Some place) = by-link (judged_to t c.taps k.side place k.port)
+      by (Some place) = by-link (judged_to t c.sight k.side place k.port)
 
 pub falling-more : (d : Due) (ds : List Due) → AllByRecursion (λ e. e.moment ≤ d.moment) ds → AreFalling ds
     → AreFalling (d ∷ ds)
@@ -250,9 +251,9 @@ given-none t c until kept are =
     by-link k None = refl
     by-link k (Some l) = refl
 
-    by : (k : Key) (o : Option ℕ) → given_from t c.taps k [] o ≡ given_with [] [] []
+    by : (k : Key) (o : Option ℕ) → given_from t c.sight k [] o ≡ given_with [] [] []
     by k None = refl
-    by k (Some place) = by-link k (judged_to t c.taps k.side place k.port)
+    by k (Some place) = by-link k (judged_to t c.sight k.side place k.port)
 
     none : (k : Key) → given_of t c [] k ≡ nothing_given k
     none k = given-from t c [] k ∙ by k k.link

@@ -74,11 +74,11 @@ module _ (t : Rows) (c : Choices) (until : ℕ) (ended : Option ℕ) (time : ℕ
     (kept : KeptByKey)
     (lawful : IsLawfulSwitch t) (a : Arrival) where
   given-more : (x : Frame) (k : Key) → counts t c x ≡ true
-      → given_of t c (x ∷ frames) k ≡ given_from t c.taps k (x ∷ counted t c frames) k.link
-  given-more x k e = given-from t c (x ∷ frames) k ∙ ap (λ fs. given_from t c.taps k fs k.link)
+      → given_of t c (x ∷ frames) k ≡ given_from t c.sight k (x ∷ counted t c frames) k.link
+  given-more x k e = given-from t c (x ∷ frames) k ∙ ap (λ fs. given_from t c.sight k fs k.link)
       (counted-more t c x frames e)
 
-  strange-same : (x : Frame) (k : Key) → ((b : Bool) → left_at k.side k.port x && is_stranger t c.taps x.arrival
+  strange-same : (x : Frame) (k : Key) → ((b : Bool) → left_at k.side k.port x && is_stranger t c.sight x.arrival
       ≡ false)
       → counts t c x ≡ true → (given_of t c (x ∷ frames) k).strange ≡ (given_of t c frames k).strange
   strange-same x k none e = ap (λ g. g.strange) (given-more x k e) ∙ by k.link
@@ -89,19 +89,19 @@ module _ (t : Rows) (c : Choices) (until : ℕ) (ended : Option ℕ) (time : ℕ
       by-link None = refl
       by-link (Some l) = refl
 
-      by : (o : Option ℕ) → (given_from t c.taps k (x ∷ counted t c frames) o).strange ≡ (given_from t c.taps k
+      by : (o : Option ℕ) → (given_from t c.sight k (x ∷ counted t c frames) o).strange ≡ (given_from t c.sight k
           (counted t c frames) o).strange
       by None = ap (λ v. map (stranger_due t k) (map (λ y. y.arrival)
-          (cond v (x ∷ filter (λ y. left_at k.side k.port y && is_stranger t c.taps y.arrival) (counted t c frames))
-          (filter (λ y. left_at k.side k.port y && is_stranger t c.taps y.arrival) (counted t c frames))))) (none true)
-      by (Some place) = by-link (judged_to t c.taps k.side place k.port)
+          (cond v (x ∷ filter (λ y. left_at k.side k.port y && is_stranger t c.sight y.arrival) (counted t c frames))
+          (filter (λ y. left_at k.side k.port y && is_stranger t c.sight y.arrival) (counted t c frames))))) (none true)
+      by (Some place) = by-link (judged_to t c.sight k.side place k.port)
 
-  came-no-stranger : (k : Key) (b : Bool) → left_at k.side k.port (frame_with Came a) && is_stranger t c.taps a ≡ false
+  came-no-stranger : (k : Key) (b : Bool) → left_at k.side k.port (frame_with Came a) && is_stranger t c.sight a ≡ false
   unfolding left_at
   came-no-stranger k b = refl
 
-  left-no-stranger : is_stranger t c.taps a ≡ false → (k : Key) (b : Bool)
-      → left_at k.side k.port (frame_with Left a) && is_stranger t c.taps a ≡ false
+  left-no-stranger : is_stranger t c.sight a ≡ false → (k : Key) (b : Bool)
+      → left_at k.side k.port (frame_with Left a) && is_stranger t c.sight a ≡ false
   left-no-stranger none k b = ap (λ v. left_at k.side k.port (frame_with Left a) && v) none
       ∙ and-false (left_at k.side k.port (frame_with Left a))
     where
@@ -110,18 +110,18 @@ module _ (t : Rows) (c : Choices) (until : ℕ) (ended : Option ℕ) (time : ℕ
       and-false false = refl
 
   pub join-came : (place : ℕ) (l : LinkRow) → counts t c (frame_with Came a) ≡ true
-      → place_named t a.bytes ≡ Some place → slice_get t.links place ≡ Some l → is_heard t c.taps a.side l ≡ true
+      → place_named t a.bytes ≡ Some place → slice_get t.links place ≡ Some l → is_heard t c.sight a.side l ≡ true
       → ((k : Key) → AreFalling (given_of t c frames k).strange)
-      → AreKept t c until ended time (came_to a.side place (seen_ports t c.taps a.side l.to) a (given_of t c frames))
+      → AreKept t c until ended time (came_to a.side place (seen_ports t c.sight a.side l.to) a (given_of t c frames))
       lines kept
       → AreKept t c until ended time (given_of t c (frame_with Came a ∷ frames)) lines kept
   join-came place l e named at heard falling are =
-      kept-same t c until ended time (came_to a.side place (seen_ports t c.taps a.side l.to) a (given_of t c frames))
+      kept-same t c until ended time (came_to a.side place (seen_ports t c.sight a.side l.to) a (given_of t c frames))
       (given_of t c (frame_with Came a ∷ frames)) lines kept
-      (λ k known. given-more (frame_with Came a) k e ∙ given-came t c.taps k (counted t c frames) a place l lawful
+      (λ k known. given-more (frame_with Came a) k e ∙ given-came t c.sight k (counted t c frames) a place l lawful
       named at known heard
       ∙ ap (λ g. if is_side a.side k.side && is_link (Some place) k.link && list_any (λ q. nat_eq q k.port)
-      (seen_ports t c.taps a.side l.to)
+      (seen_ports t c.sight a.side l.to)
       then given_with (g.came ++ a ∷ []) g.left g.strange else g) (sym (given-from t c frames k)))
       (λ k. subst AreFalling (sym (strange-same (frame_with Came a) k (came-no-stranger k) e)) (falling k)) are
 
@@ -130,37 +130,37 @@ module _ (t : Rows) (c : Choices) (until : ℕ) (ended : Option ℕ) (time : ℕ
       → AreKept t c until ended time (given_of t c (frame_with Came a ∷ frames)) lines kept
   join-unnamed e named are =
       kept-same t c until ended time (given_of t c frames) (given_of t c (frame_with Came a ∷ frames)) lines kept
-      (λ k known. given-more (frame_with Came a) k e ∙ given-unnamed t c.taps k (counted t c frames) a lawful named
+      (λ k known. given-more (frame_with Came a) k e ∙ given-unnamed t c.sight k (counted t c frames) a lawful named
       ∙ sym (given-from t c frames k))
       (λ k. subst AreFalling (sym (strange-same (frame_with Came a) k (came-no-stranger k) e)) (are.falling k)) are
 
   pub join-unheard : (place : ℕ) (l : LinkRow) → counts t c (frame_with Came a) ≡ true
-      → place_named t a.bytes ≡ Some place → slice_get t.links place ≡ Some l → is_heard t c.taps a.side l ≡ false
+      → place_named t a.bytes ≡ Some place → slice_get t.links place ≡ Some l → is_heard t c.sight a.side l ≡ false
       → AreKept t c until ended time (given_of t c frames) lines kept
       → AreKept t c until ended time (given_of t c (frame_with Came a ∷ frames)) lines kept
   join-unheard place l e named at deaf are =
       kept-same t c until ended time (given_of t c frames) (given_of t c (frame_with Came a ∷ frames)) lines kept
-      (λ k known. given-more (frame_with Came a) k e ∙ given-unheard t c.taps k (counted t c frames) a place l lawful
+      (λ k known. given-more (frame_with Came a) k e ∙ given-unheard t c.sight k (counted t c frames) a place l lawful
       named at deaf
       ∙ sym (given-from t c frames k))
       (λ k. subst AreFalling (sym (strange-same (frame_with Came a) k (came-no-stranger k) e)) (are.falling k)) are
 
   -- its stream isn't judged
   pub join-unseen : (place : ℕ) (l : LinkRow) → counts t c (frame_with Left a) ≡ true
-      → place_named t a.bytes ≡ Some place → link_to t place a.port ≡ Some l → is_stranger t c.taps a ≡ false
-      → is_judged t c.taps a.side l a.port ≡ false
+      → place_named t a.bytes ≡ Some place → link_to t place a.port ≡ Some l → is_stranger t c.sight a ≡ false
+      → is_judged t c.sight a.side l a.port ≡ false
       → AreKept t c until ended time (given_of t c frames) lines kept
       → AreKept t c until ended time (given_of t c (frame_with Left a ∷ frames)) lines kept
   join-unseen place l e named to none unseen are =
       kept-same t c until ended time (given_of t c frames) (given_of t c (frame_with Left a ∷ frames)) lines kept
-      (λ k known. given-more (frame_with Left a) k e ∙ given-unseen t c.taps k (counted t c frames) a place l lawful
+      (λ k known. given-more (frame_with Left a) k e ∙ given-unseen t c.sight k (counted t c frames) a place l lawful
       named to none unseen
       ∙ sym (given-from t c frames k))
       (λ k. subst AreFalling (sym (strange-same (frame_with Left a) k (left-no-stranger none k) e)) (are.falling k)) are
 
   pub join-left : (place : ℕ) (l : LinkRow) → counts t c (frame_with Left a) ≡ true
-      → place_named t a.bytes ≡ Some place → link_to t place a.port ≡ Some l → is_stranger t c.taps a ≡ false
-      → is_judged t c.taps a.side l a.port ≡ true
+      → place_named t a.bytes ≡ Some place → link_to t place a.port ≡ Some l → is_stranger t c.sight a ≡ false
+      → is_judged t c.sight a.side l a.port ≡ true
       → ((k : Key) → AreFalling (given_of t c frames k).strange)
       → AreKept t c until ended time (with_left (key_with a.side a.port (Some place)) (gone_of a)
       (given_of t c frames)) lines kept
@@ -168,13 +168,13 @@ module _ (t : Rows) (c : Choices) (until : ℕ) (ended : Option ℕ) (time : ℕ
   join-left place l e named to none judges falling are =
       kept-same t c until ended time (with_left (key_with a.side a.port (Some place)) (gone_of a) (given_of t c frames))
       (given_of t c (frame_with Left a ∷ frames)) lines kept
-      (λ k known. given-more (frame_with Left a) k e ∙ given-left t c.taps k (counted t c frames) a place l lawful
+      (λ k known. given-more (frame_with Left a) k e ∙ given-left t c.sight k (counted t c frames) a place l lawful
       named to known judges
       ∙ ap (λ g. if is_key (key_with a.side a.port (Some place)) k
       then given_with g.came (g.left ++ gone_of a ∷ []) g.strange else g) (sym (given-from t c frames k)))
       (λ k. subst AreFalling (sym (strange-same (frame_with Left a) k (left-no-stranger none k) e)) (falling k)) are
 
-  pub join-strange : counts t c (frame_with Left a) ≡ true → is_stranger t c.taps a ≡ true
+  pub join-strange : counts t c (frame_with Left a) ≡ true → is_stranger t c.sight a ≡ true
       → AllByRecursion (λ x. x.arrival.time ≤ a.time) (counted t c frames)
       → ((k : Key) → AreFalling (given_of t c frames k).strange)
       → AreKept t c until ended time (with_strange (key_with a.side a.port None)
@@ -185,7 +185,7 @@ module _ (t : Rows) (c : Choices) (until : ℕ) (ended : Option ℕ) (time : ℕ
       kept-same t c until ended time (with_strange (key_with a.side a.port None)
       (stranger_due t (key_with a.side a.port None) a)
       (given_of t c frames)) (given_of t c (frame_with Left a ∷ frames)) lines kept
-      (λ k known. given-more (frame_with Left a) k e ∙ given-strange t c.taps k (counted t c frames) a lawful strange
+      (λ k known. given-more (frame_with Left a) k e ∙ given-strange t c.sight k (counted t c frames) a lawful strange
       known
       ∙ ap (λ g. if is_key (key_with a.side a.port None) k
       then given_with g.came g.left (stranger_due t (key_with a.side a.port None) a ∷ g.strange) else g)
@@ -195,20 +195,20 @@ module _ (t : Rows) (c : Choices) (until : ℕ) (ended : Option ℕ) (time : ℕ
       (subst (λ g. AllByRecursion (λ d. d.moment ≤ a.time) g.strange) (given-from t c frames k)
       (strange-times t c frames a.time all k)))) are
     where
-      by : (k : Key) (o : Option ℕ) → AreFalling (given_from t c.taps k (counted t c frames) o).strange
-          → AllByRecursion (λ d. d.moment ≤ a.time) (given_from t c.taps k (counted t c frames) o).strange
-          → AreFalling (given_from t c.taps k (frame_with Left a ∷ counted t c frames) o).strange
-      by k None f times = tell (left_at k.side k.port (frame_with Left a) && is_stranger t c.taps a)
+      by : (k : Key) (o : Option ℕ) → AreFalling (given_from t c.sight k (counted t c frames) o).strange
+          → AllByRecursion (λ d. d.moment ≤ a.time) (given_from t c.sight k (counted t c frames) o).strange
+          → AreFalling (given_from t c.sight k (frame_with Left a ∷ counted t c frames) o).strange
+      by k None f times = tell (left_at k.side k.port (frame_with Left a) && is_stranger t c.sight a)
         where
           tell : (v : Bool) → AreFalling (map (stranger_due t k) (map (λ y. y.arrival)
-              (cond v (frame_with Left a ∷ filter (λ y. left_at k.side k.port y && is_stranger t c.taps y.arrival)
+              (cond v (frame_with Left a ∷ filter (λ y. left_at k.side k.port y && is_stranger t c.sight y.arrival)
               (counted t c frames))
-              (filter (λ y. left_at k.side k.port y && is_stranger t c.taps y.arrival) (counted t c frames)))))
-          tell true = falling-more (stranger_due t k a) (given_from t c.taps k (counted t c frames) None).strange
+              (filter (λ y. left_at k.side k.port y && is_stranger t c.sight y.arrival) (counted t c frames)))))
+          tell true = falling-more (stranger_due t k a) (given_from t c.sight k (counted t c frames) None).strange
               times f
           tell false = f
       by k (Some place) f times = linked-falls k (frame_with Left a ∷ counted t c frames)
-          (judged_to t c.taps k.side place k.port)
+          (judged_to t c.sight k.side place k.port)
 
 -- one of these is a system to which the link goes
 pub any-in : (to : List ℕ) (i s : ℕ) → s ≡ get_or to i s → i < length to → list_any (λ j. nat_eq j s) to ≡ true
@@ -243,9 +243,9 @@ came-few t c frames k = subst (λ g. length g.came ≤ length frames) (sym (give
     by-link (Some l) = let a = back-few (λ (x : Frame). x.arrival) (is_arrival_of l.vl k.side) (counted t c frames) in
         let b = filter-few (counts t c) frames in omega (arith, a, b)
 
-    by : (o : Option ℕ) → length (given_from t c.taps k (counted t c frames) o).came ≤ length frames
+    by : (o : Option ℕ) → length (given_from t c.sight k (counted t c frames) o).came ≤ length frames
     by None = omega arith
-    by (Some place) = by-link (judged_to t c.taps k.side place k.port)
+    by (Some place) = by-link (judged_to t c.sight k.side place k.port)
 
 pub left-few : (t : Rows) (c : Choices) (frames : List Frame) (k : Key) → length (given_of t c frames k).left
     ≤ length frames
@@ -257,9 +257,9 @@ left-few t c frames k = subst (λ g. length g.left ≤ length frames) (sym (give
         (λ x. left_at k.side k.port x && names l.vl x.arrival.bytes) (counted t c frames) in
         let b = filter-few (counts t c) frames in omega (arith, a, b)
 
-    by : (o : Option ℕ) → length (given_from t c.taps k (counted t c frames) o).left ≤ length frames
+    by : (o : Option ℕ) → length (given_from t c.sight k (counted t c frames) o).left ≤ length frames
     by None = omega arith
-    by (Some place) = by-link (judged_to t c.taps k.side place k.port)
+    by (Some place) = by-link (judged_to t c.sight k.side place k.port)
 
 pub counted-behind : (t : Rows) (c : Choices) (frames : List Frame) (time : ℕ)
     → AllByRecursion (λ x. x.arrival.time ≤ time) frames
@@ -278,43 +278,43 @@ pub come-next : (t : Rows) (c : Choices) (until time : ℕ) (side : Side) (place
     (x : Arrival)
     (given : Key → Given) (lines : List Due) (kept : KeptByKey)
     → IsLawfulSwitch t → slice_get t.links place ≡ Some row → s ≡ get_or row.to rank s → rank < length row.to
-    → c.taps Left side (port_of t s) ≡ true
+    → c.sight.is_seen side (port_of t s) ≡ true
     → ((k : Key) → AreFalling (given k).strange)
     → AreKept t c until None time (with_came (key_with side (port_of t s) (Some place)) x
-    (came_to side place (seen_ports t c.taps side (take rank row.to)) x given)) lines kept
-    → AreKept t c until None time (came_to side place (seen_ports t c.taps side (take (rank + 1) row.to)) x given)
+    (came_to side place (seen_ports t c.sight side (take rank row.to)) x given)) lines kept
+    → AreKept t c until None time (came_to side place (seen_ports t c.sight side (take (rank + 1) row.to)) x given)
     lines kept
 come-next t c until time side place row rank s x given lines kept lawful at is lt seen falling are =
-    let more : seen_ports t c.taps side (take (rank + 1) row.to) ≡ seen_ports t c.taps side (take rank row.to)
+    let more : seen_ports t c.sight side (take (rank + 1) row.to) ≡ seen_ports t c.sight side (take rank row.to)
     ++ port_of t s ∷ [] =
-    ap (λ l. filter (c.taps Left side) l) (more-ports t row rank s is lt)
-    ∙ filter-pushed (c.taps Left side) (map (port_of t) (take rank row.to)) (port_of t s) seen in
+    ap (λ l. filter (c.sight.is_seen side) l) (more-ports t row rank s is lt)
+    ∙ filter-pushed (c.sight.is_seen side) (map (port_of t) (take rank row.to)) (port_of t s) seen in
     kept-same t c until None time (with_came (key_with side (port_of t s) (Some place)) x
-    (came_to side place (seen_ports t c.taps side (take rank row.to)) x given))
-    (came_to side place (seen_ports t c.taps side (take (rank + 1) row.to)) x given) lines kept
+    (came_to side place (seen_ports t c.sight side (take rank row.to)) x given))
+    (came_to side place (seen_ports t c.sight side (take (rank + 1) row.to)) x given) lines kept
     (λ k known. ap (λ ps. came_to side place ps x given k) more
-    ∙ came-step side place (port_of t s) (seen_ports t c.taps side (take rank row.to)) x given k
-    (any-fewer (c.taps Left side) (port_of t s) (map (port_of t) (take rank row.to))
+    ∙ came-step side place (port_of t s) (seen_ports t c.sight side (take rank row.to)) x given k
+    (any-fewer (c.sight.is_seen side) (port_of t s) (map (port_of t) (take rank row.to))
     (fresh-port t place row rank s lawful at is lt)))
-    (λ k. subst AreFalling (sym (came-strange side place (seen_ports t c.taps side (take (rank + 1) row.to)) x given
+    (λ k. subst AreFalling (sym (came-strange side place (seen_ports t c.sight side (take (rank + 1) row.to)) x given
     k)) (falling k)) are
 
 pub come-past : (t : Rows) (c : Choices) (until time : ℕ) (side : Side) (place : ℕ) (row : LinkRow) (rank s : ℕ)
     (x : Arrival)
     (given : Key → Given) (lines : List Due) (kept : KeptByKey)
-    → s ≡ get_or row.to rank s → rank < length row.to → c.taps Left side (port_of t s) ≡ false
-    → AreKept t c until None time (came_to side place (seen_ports t c.taps side (take rank row.to)) x given) lines kept
-    → AreKept t c until None time (came_to side place (seen_ports t c.taps side (take (rank + 1) row.to)) x given)
+    → s ≡ get_or row.to rank s → rank < length row.to → c.sight.is_seen side (port_of t s) ≡ false
+    → AreKept t c until None time (came_to side place (seen_ports t c.sight side (take rank row.to)) x given) lines kept
+    → AreKept t c until None time (came_to side place (seen_ports t c.sight side (take (rank + 1) row.to)) x given)
     lines kept
 come-past t c until time side place row rank s x given lines kept is lt unseen are =
     subst (λ ps. AreKept t c until None time (came_to side place ps x given) lines kept)
-    (sym (ap (λ l. filter (c.taps Left side) l) (more-ports t row rank s is lt)
-    ∙ filter-push (c.taps Left side) (map (port_of t) (take rank row.to)) (port_of t s) unseen)) are
+    (sym (ap (λ l. filter (c.sight.is_seen side) l) (more-ports t row rank s is lt)
+    ∙ filter-push (c.sight.is_seen side) (map (port_of t) (take rank row.to)) (port_of t s) unseen)) are
 
 pub come-first : (t : Rows) (c : Choices) (until time : ℕ) (side : Side) (place : ℕ) (row : LinkRow) (x : Arrival)
     (given : Key → Given) (lines : List Due) (kept : KeptByKey)
     → AreKept t c until None time given lines kept
-    → AreKept t c until None time (came_to side place (seen_ports t c.taps side (take 0 row.to)) x given) lines kept
+    → AreKept t c until None time (came_to side place (seen_ports t c.sight side (take 0 row.to)) x given) lines kept
 come-first t c until time side place row x given lines kept are =
     kept-same t c until None time given (came_to side place [] x given) lines kept
     (λ k known. none-yet side place x given k)

@@ -126,7 +126,7 @@ only-one (d ∷ lines) (e ∷ others) rl ro ol oo all =
 -- ---- lines have keys in range
 
 pub judged-link : (t : Rows) (c : Choices) (side : Side) (place port : ℕ) (l : LinkRow)
-    → judged_to t c.taps side place port ≡ Some l
+    → judged_to t c.sight side place port ≡ Some l
     → link_to t place port ≡ Some l
 unfolding judged_to
 judged-link t c side place port l e = by (link_to t place port) e
@@ -135,10 +135,10 @@ judged-link t c side place port l e = by (link_to t place port) e
     test k true h = h
     test k false h = absurd (cc)
 
-    by : (o : Option LinkRow) → option_and_then (λ k. if is_judged t c.taps side k port then Some k else None) o
+    by : (o : Option LinkRow) → option_and_then (λ k. if is_judged t c.sight side k port then Some k else None) o
         ≡ Some l → o ≡ Some l
     by None h = absurd (cc)
-    by (Some k) h = test k (is_judged t c.taps side k port) h
+    by (Some k) h = test k (is_judged t c.sight side k port) h
 
 all-ranged : (k : Key) (lines : List Due) → AllByRecursion (λ d. k ≡ d.key) lines
     → ((d : Due) (more : List Due) → lines ≡ d ∷ more → IsRanged k) → AreRanged lines
@@ -152,7 +152,7 @@ module _ (t : Rows) (c : Choices) (until : ℕ) (frames : List Frame) (few : len
   ranged-own : (k : Key) (d : Due) (more : List Due) → k.port < 256 → dues_of t c until frames k ≡ d ∷ more → IsRanged k
   ranged-own k d more port e = record { port = port; link = by k.link e }
     where
-      by-stream : (place : ℕ) (o : Option LinkRow) → judged_to t c.taps k.side place k.port ≡ o
+      by-stream : (place : ℕ) (o : Option LinkRow) → judged_to t c.sight k.side place k.port ≡ o
           → option_map_or (stream_dues t c until frames k) o [] ≡ d ∷ more → place + 1 < 0x100000000
       by-stream place None is h = absurd (cc)
       by-stream place (Some l) is h =
@@ -162,7 +162,7 @@ module _ (t : Rows) (c : Choices) (until : ℕ) (frames : List Frame) (few : len
 
       by : (o : Option ℕ) → dues_by t c until frames k o ≡ d ∷ more → link_rank o < 0x100000000
       by None h = omega arith
-      by (Some place) h = by-stream place (judged_to t c.taps k.side place k.port) refl h
+      by (Some place) h = by-stream place (judged_to t c.sight k.side place k.port) refl h
 
   pub ranged : (lines : List Due) → AreLines t c until frames lines → AreRanged lines
   ranged lines are = of-each-key (λ d. IsRanged d.key) lines (λ k. by k (nat_lt k.port 256) refl)

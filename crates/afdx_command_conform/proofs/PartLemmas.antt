@@ -227,23 +227,23 @@ module _ (t : Rows) (c : Choices) (until : ℕ) (frames : List Frame) where
     pub system : ℕ
     pub goes : IsIn system l.to
     pub port_is : port_of t system ≡ port
-    pub judged : is_judged t c.taps side l port ≡ true
+    pub judged : is_judged t c.sight side l port ≡ true
 
-  judged-true : (side : Side) (place port : ℕ) (l : LinkRow) → judged_to t c.taps side place port ≡ Some l
-      → is_judged t c.taps side l port ≡ true
+  judged-true : (side : Side) (place port : ℕ) (l : LinkRow) → judged_to t c.sight side place port ≡ Some l
+      → is_judged t c.sight side l port ≡ true
   unfolding judged_to
   judged-true side place port l e = by (link_to t place port) e
     where
-      test : (k : LinkRow) (b : Bool) → is_judged t c.taps side k port ≡ b → (if b then Some k else None) ≡ Some l
-          → is_judged t c.taps side l port ≡ true
-      test k true is h = let same : k ≡ l = cc in ap (λ (m : LinkRow). is_judged t c.taps side m port) (sym same) ∙ is
+      test : (k : LinkRow) (b : Bool) → is_judged t c.sight side k port ≡ b → (if b then Some k else None) ≡ Some l
+          → is_judged t c.sight side l port ≡ true
+      test k true is h = let same : k ≡ l = cc in ap (λ (m : LinkRow). is_judged t c.sight side m port) (sym same) ∙ is
       test k false is h = absurd (cc)
 
-      by : (o : Option LinkRow) → option_and_then (λ k. if is_judged t c.taps side k port then Some k else None) o
+      by : (o : Option LinkRow) → option_and_then (λ k. if is_judged t c.sight side k port then Some k else None) o
           ≡ Some l
-          → is_judged t c.taps side l port ≡ true
+          → is_judged t c.sight side l port ≡ true
       by None h = absurd (cc)
-      by (Some k) h = test k (is_judged t c.taps side k port) refl h
+      by (Some k) h = test k (is_judged t c.sight side k port) refl h
 
   goes-in : (port : ℕ) (l : LinkRow) → goes_to t l port ≡ true → (s : ℕ) × IsIn s l.to × (port_of t s ≡ port)
   unfolding goes_to
@@ -254,7 +254,7 @@ module _ (t : Rows) (c : Choices) (until : ℕ) (frames : List Frame) where
       by None is h = absurd (true≢false (sym h))
       by (Some s) is h = let r = system-at t port s is in (s, in-any s l.to h, port-is t s r.0 r.1 ∙ r.2)
 
-  pub judged-parts : (side : Side) (place port : ℕ) (l : LinkRow) → judged_to t c.taps side place port ≡ Some l
+  pub judged-parts : (side : Side) (place port : ℕ) (l : LinkRow) → judged_to t c.sight side place port ≡ Some l
       → IsJudgedTo side place port l
   judged-parts side place port l is =
       let here = link-to t place port l (judged-link t c side place port l is) in
@@ -266,7 +266,7 @@ module _ (t : Rows) (c : Choices) (until : ℕ) (frames : List Frame) where
 
   pub to-judged : (side : Side) (place s : ℕ) (l : LinkRow) → IsLawfulSwitch t → slice_get t.links place ≡ Some l
       → IsIn s l.to
-      → is_judged t c.taps side l (port_of t s) ≡ true → judged_to t c.taps side place (port_of t s) ≡ Some l
+      → is_judged t c.sight side l (port_of t s) ≡ true → judged_to t c.sight side place (port_of t s) ≡ Some l
   unfolding judged_to
   to-judged side place s l lawful at m judged =
       let row = AllByRecursion-slice_get (IsLinkUpTo jitter_from_any (length t.systems)) t.links place l
@@ -274,11 +274,11 @@ module _ (t : Rows) (c : Choices) (until : ℕ) (frames : List Frame) where
       let r = get_or t.systems s no-row in
       let sat = slice_get-get_or t.systems s no-row (all-in (λ i. i < length t.systems) s l.to row.to m) in
       let link = goes-there t place l s r lawful at sat (any-in s l.to m) in
-      ap (λ (o : Option LinkRow). option_and_then (λ k. if is_judged t c.taps side k (port_of t s) then Some k
+      ap (λ (o : Option LinkRow). option_and_then (λ k. if is_judged t c.sight side k (port_of t s) then Some k
       else None) o) link
       ∙ ap (λ (b : Bool). if b then Some l else None) judged
 
-  pub at-judged : (side : Side) (l : LinkRow) (port : ℕ) → is_judged t c.taps side l port ≡ true
+  pub at-judged : (side : Side) (l : LinkRow) (port : ℕ) → is_judged t c.sight side l port ≡ true
       → counted_at t c until frames side l port ≡ stream_counted (terms_at t c until l port)
       (reverse (arrivals_of t c l.vl side frames)) (reverse (frames_of t c l.vl side port frames))
   unfolding counted_at
@@ -287,7 +287,7 @@ module _ (t : Rows) (c : Choices) (until : ℕ) (frames : List Frame) where
       (reverse (arrivals_of t c l.vl side frames))
       (reverse (frames_of t c l.vl side port frames)) else none_counted) e
 
-  pub at-other : (side : Side) (l : LinkRow) (port : ℕ) → is_judged t c.taps side l port ≡ false
+  pub at-other : (side : Side) (l : LinkRow) (port : ℕ) → is_judged t c.sight side l port ≡ false
       → counted_at t c until frames side l port ≡ none_counted
   unfolding counted_at
   at-other side l port e =
@@ -305,10 +305,10 @@ module _ (t : Rows) (c : Choices) (until : ℕ) (frames : List Frame) where
 
   pub each-sure : IsLawfulSwitch t → AreSure t c until frames → Sum.is_unsure ≡ false
   each-sure lawful sure =
-      all-sure (λ side place s l at m. by side place s l at m (is_judged t c.taps side l (port_of t s)) refl)
+      all-sure (λ side place s l at m. by side place s l at m (is_judged t c.sight side l (port_of t s)) refl)
     where
       by : (side : Side) (place s : ℕ) (l : LinkRow) → slice_get t.links place ≡ Some l → IsIn s l.to
-          → (b : Bool) → is_judged t c.taps side l (port_of t s) ≡ b → (At side l s).is_unsure ≡ false
+          → (b : Bool) → is_judged t c.sight side l (port_of t s) ≡ b → (At side l s).is_unsure ≡ false
       by side place s l at m true e =
           ap (λ (n : Counted). n.is_unsure) (at-judged side l (port_of t s) e)
           ∙ sure side place (port_of t s) l (to-judged side place s l lawful at m e)

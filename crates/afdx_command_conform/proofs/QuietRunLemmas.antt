@@ -14,7 +14,8 @@ use Rattle.afdx_text.specs.declared.conform_line.Conclusion.{Conclusion}
 use Rattle.afdx_command_conform.specs.Choices.{Choices, counted, counts, is_in_time, is_missed, is_passed}
 use Rattle.afdx_command_conform.specs.Counting.{Counted, counted_at, totals_of}
 use Rattle.afdx_command_conform.specs.QuietRuns.{LastLineIsQuiet, NoneLeftOutCounts, NoneUnseenIsJudged, NothingFoundIsQuiet}
-use Rattle.afdx_command_conform.specs.Tapped.{Taps, is_judged, unseen_among, unseen_to}
+use Rattle.afdx_command_conform.specs.Sight.{Sight}
+use Rattle.afdx_command_conform.specs.Tapped.{is_judged, unseen_among, unseen_to}
 use Rattle.afdx_command_conform.specs.Totals.{answer_of, is_unexercised}
 use Rattle.afdx_command_conform.specs.VerdictLaws.{end_of}
 use Rattle.afdx_command_conform.specs.declared.totals.Totals.{Totals}
@@ -61,42 +62,42 @@ last_line k frames lines last lawful all never closed =
 
 -- ---- all are judged
 
-module _ (t : Rows) (taps : Taps) (side : Side) where
-  to-all : (l : LinkRow) (system : ℕ) (to : List ℕ) → unseen_to t taps side l to ≡ 0
-      → list_any (λ place. nat_eq place system) to ≡ true → is_judged t taps side l (port_of t system) ≡ true
+module _ (t : Rows) (sight : Sight) (side : Side) where
+  to-all : (l : LinkRow) (system : ℕ) (to : List ℕ) → unseen_to t sight side l to ≡ 0
+      → list_any (λ place. nat_eq place system) to ≡ true → is_judged t sight side l (port_of t system) ≡ true
   unfolding unseen_to
   to-all l system [] none goes = absurd (true≢false (sym goes))
   to-all l system (x ∷ to) none goes =
-      by (is_judged t taps side l (port_of t x)) (nat_eq x system) refl refl none goes (to-all l system to)
+      by (is_judged t sight side l (port_of t x)) (nat_eq x system) refl refl none goes (to-all l system to)
     where
-      by : (b e : Bool) → is_judged t taps side l (port_of t x) ≡ b → nat_eq x system ≡ e
-          → (if b then 0 else 1) + unseen_to t taps side l to ≡ 0
+      by : (b e : Bool) → is_judged t sight side l (port_of t x) ≡ b → nat_eq x system ≡ e
+          → (if b then 0 else 1) + unseen_to t sight side l to ≡ 0
           → (e || list_any (λ place. nat_eq place system) to) ≡ true
-          → (unseen_to t taps side l to ≡ 0 → list_any (λ place. nat_eq place system) to ≡ true
-          → is_judged t taps side l (port_of t system) ≡ true)
-          → is_judged t taps side l (port_of t system) ≡ true
+          → (unseen_to t sight side l to ≡ 0 → list_any (λ place. nat_eq place system) to ≡ true
+          → is_judged t sight side l (port_of t system) ≡ true)
+          → is_judged t sight side l (port_of t system) ≡ true
       by false e is same none goes more = absurd (omega (arith, none))
       by true true is same none goes more =
-          ap (λ (n : ℕ). is_judged t taps side l (port_of t n)) (sym (eqb-true x system same)) ∙ is
+          ap (λ (n : ℕ). is_judged t sight side l (port_of t n)) (sym (eqb-true x system same)) ∙ is
       by true false is same none goes more = more (omega (arith, none)) goes
 
-  among-all : (links : List LinkRow) (place : ℕ) (l : LinkRow) → unseen_among t taps side links ≡ 0
-      → slice_get links place ≡ Some l → unseen_to t taps side l l.to ≡ 0
+  among-all : (links : List LinkRow) (place : ℕ) (l : LinkRow) → unseen_among t sight side links ≡ 0
+      → slice_get links place ≡ Some l → unseen_to t sight side l l.to ≡ 0
   unfolding unseen_among
   among-all [] place l none at = absurd (cc)
   among-all (k ∷ links) zero l none at =
       let same : k ≡ l = cc in
-      let here : unseen_to t taps side k k.to ≡ 0 = omega (arith, none) in
-      subst (λ (m : LinkRow). unseen_to t taps side m m.to ≡ 0) same here
+      let here : unseen_to t sight side k k.to ≡ 0 = omega (arith, none) in
+      subst (λ (m : LinkRow). unseen_to t sight side m m.to ≡ 0) same here
   among-all (k ∷ links) (suc place) l none at = among-all links place l (omega (arith, none)) at
 
 pub none_unseen : NoneUnseenIsJudged
-none_unseen t taps side place system l s lawful none at there goes =
-    to-judged t taps side place s.port l (goes-port t place l system s lawful at there goes)
-    (subst (λ (p : ℕ). is_judged t taps side l p ≡ true) (port-is t system s there)
-    (to-all t taps side l system l.to (among-all t taps side t.links place l (by side) at) goes))
+none_unseen t sight side place system l s lawful none at there goes =
+    to-judged t sight side place s.port l (goes-port t place l system s lawful at there goes)
+    (subst (λ (p : ℕ). is_judged t sight side l p ≡ true) (port-is t system s there)
+    (to-all t sight side l system l.to (among-all t sight side t.links place l (by side) at) goes))
   where
-    by : (x : Side) → unseen_among t taps x t.links ≡ 0
+    by : (x : Side) → unseen_among t sight x t.links ≡ 0
     by A = omega (arith, none)
     by B = omega (arith, none)
 

@@ -32,7 +32,7 @@ use Rattle.afdx_command_conform.specs.Keys.{is_key, key_with}
 use Rattle.afdx_command_conform.specs.Lines.{AreInOrder, AreLines, Due, dues_by, dues_of, judged_dues, of_key, stranger_due, stream_dues}
 use Rattle.afdx_command_conform.specs.RunExample.{PremisesAreMet, choices, frames_at, late_line, link, receiver, sender, tables}
 use Rattle.afdx_command_conform.specs.RunLaws.{AreByTime, IsOfRight, sound_at, uncut_at}
-use Rattle.afdx_command_conform.specs.Tapped.{all_taps, goes_there, is_damaged, is_unheard, judged_to, link_to, place_named, unseen_among, unseen_to}
+use Rattle.afdx_command_conform.specs.Tapped.{goes_there, is_damaged, is_unheard, judged_to, link_to, place_named, unseen_among, unseen_to}
 use Rattle.afdx_command_conform.specs.Telling.{findings_in}
 use Rattle.afdx_command_conform.specs.declared.key.Key.{Key}
 use Rattle.afdx_command_conform.proofs.KeyLemmas.{key-cases, key-same, key-self, link-to, system-at}
@@ -149,7 +149,7 @@ its-port port goes = by (system_at_port tables.systems port) refl goes
     by None is h = absurd (true≢false (sym h))
     by (Some system) is h = let s = system-at tables port system is in at system s.0 s.1 s.2 h
 
-is-it : (side : Side) (place port : ℕ) (l : LinkRow) → judged_to tables all_taps side place port ≡ Some l
+is-it : (side : Side) (place port : ℕ) (l : LinkRow) → judged_to tables choices.sight side place port ≡ Some l
     → IsIt place port l
 is-it side place port l is =
     let here = link-to tables place port l (judged-link tables choices side place port l is) in
@@ -174,7 +174,7 @@ module _ (time : ℕ) (all : counted tables choices (frames_at time) ≡ frames_
   unfolding left_at is_stranger goes_there place_named link_to link_of goes_to system_at_port
   no-strangers side port =
       ap (λ (fs : List Frame). map (λ x. x.arrival)
-      (filter (λ x. left_at side port x && is_stranger tables choices.taps x.arrival) fs)) all
+      (filter (λ x. left_at side port x && is_stranger tables choices.sight x.arrival) fs)) all
       ∙ ap (λ (b : Bool). map (λ (x : Frame). x.arrival)
       (if b then frame_with Left (arrival_with 1 time A 3 frame_bytes) ∷ [] else []))
       (none-and (left_at side port (frame_with Left (arrival_with 1 time A 3 frame_bytes))))
@@ -200,7 +200,7 @@ module _ (time : ℕ) (all : counted tables choices (frames_at time) ≡ frames_
             ∙ ap (λ (n : ℕ). is_key (key_with k.side n (Some place)) its-key) (sym is.port) ∙ e)
 
         judged : (place : ℕ) → is_key (key_with k.side k.port (Some place)) its-key ≡ false
-            → (o : Option LinkRow) → judged_to tables all_taps k.side place k.port ≡ o
+            → (o : Option LinkRow) → judged_to tables choices.sight k.side place k.port ≡ o
             → option_map_or (stream_dues tables choices time (frames_at time) (key_with k.side k.port (Some place))) o
             [] ≡ []
         judged place e None is = refl
@@ -213,7 +213,7 @@ module _ (time : ℕ) (all : counted tables choices (frames_at time) ≡ frames_
             (no-strangers k.side k.port)
         by (Some place) is =
             judged place (ap (λ (o : Option ℕ). is_key (key_with k.side k.port o) its-key) (sym is) ∙ other)
-            (judged_to tables all_taps k.side place k.port) refl
+            (judged_to tables choices.sight k.side place k.port) refl
 
 -- ---- all of it
 

@@ -27,6 +27,7 @@ use Rattle.afdx_conform.proofs.QuietLemmas.{finds_nothing}
 use Rattle.afdx_conform.proofs.RightLemmas.{right_explained}
 use Rattle.afdx_conform.proofs.SureLemmas.{exact_sure}
 use Rattle.afdx_conform.proofs.WholeLemmas.{all_explained}
+use Rattle.afdx_command_conform.specs.Sight.{HasBags, TablesHaveBags}
 use Rattle.afdx_command_conform.specs.Choices.{Choices, counted, counts, is_before, is_behind, is_in_time, is_passed, latest_of, until_or}
 use Rattle.afdx_command_conform.specs.Frames.{arrivals_of, frames_of, gone_of, left_at, terms_at}
 use Rattle.afdx_command_conform.specs.Lines.{AreLines, Due, judged_at}
@@ -132,12 +133,16 @@ counted-until t c frames order = by c.until refl
 
 -- ---- all streams
 
-pub bag-of : (t : Rows) (c : Choices) (side : Side) (place port : ℕ) (l : LinkRow) → IsLawfulSwitch t
-    → judged_to t c.taps side place port ≡ Some l → IsTrue (is_bag (rule_of t l).bag_ms)
+pub bag-of : (t : Rows) (c : Choices) (side : Side) (place port : ℕ) (l : LinkRow) → HasBags t c.sight
+    → judged_to t c.sight side place port ≡ Some l → IsTrue (is_bag (c.sight.rule l).bag_ms)
+bag-of t c side place port l bags is =
+    bags place l (link-to t place port l (judged-link t c side place port l is)).at
+
+pub tables-have-bags : TablesHaveBags
 unfolding rule_of
-bag-of t c side place port l lawful is =
-    (AllByRecursion-slice_get (IsLinkUpTo jitter_from_any (length t.systems)) t.links place l lawful.links.each
-    (link-to t place port l (judged-link t c side place port l is)).at).bag_ms
+tables-have-bags t taps lawful place l at =
+    (AllByRecursion-slice_get (IsLinkUpTo jitter_from_any
+    (length t.systems)) t.links place l lawful.links.each at).bag_ms
 
 module _ (t : Rows) (c : Choices) (until : ℕ) (frames : List Frame) (lines : List Due) (lawful : IsLawfulSwitch t)
     (order : AreByTime frames) (are : AreLines t c until frames lines) where
@@ -149,7 +154,7 @@ module _ (t : Rows) (c : Choices) (until : ℕ) (frames : List Frame) (lines : L
     explains = e;
     windows = what_passed (terms_at t c until l port) (sound_at t c until frames l side)
         (uncut_at t c until frames l side port)
-        (sound-by-time (rule_of t l) (arrivals_of t c l.vl side frames) (arrivals-by-time t c frames order l.vl side))
+        (sound-by-time (c.sight.rule l) (arrivals_of t c l.vl side frames) (arrivals-by-time t c frames order l.vl side))
         e;
   }
 
@@ -200,7 +205,7 @@ none_explained t c until frames lines lawful order are = (
 )
 
 pub right_conforms : RightConforms
-right_conforms t c until frames lines lawful order drift are right =
+right_conforms t c until frames lines lawful bags order drift are right =
     then-found t c until frames lines lawful order are (record {
       none_strange = right.none_strange;
       streams = λ side place port l is.
@@ -209,13 +214,13 @@ right_conforms t c until frames lines lawful order drift are right =
           (subst (λ (xs : List Arrival). Explains (terms_at t c until l port) xs
           (uncut_at t c until frames l side port)) r.arrivals
           (right_explained (terms_at t c until l port) r.asked (uncut_at t c until frames l side port)
-          (bag-of t c side place port l lawful is) drift r.is_right));
+          (bag-of t c side place port l bags is) drift r.is_right));
     })
 
 -- ---- with exact stamps and clocks
 
 module _ (t : Rows) (c : Choices) (frames : List Frame) (lines : List Due) (lawful : IsLawfulSwitch t)
-    (order : AreByTime frames)
+    (bags : HasBags t c.sight) (order : AreByTime frames)
     (exact : IsExactBy c.by) (are : AreLines t c (until_or c.until frames) frames lines) where
   abbrev End : ℕ
   End = until_or c.until frames
@@ -246,7 +251,7 @@ module _ (t : Rows) (c : Choices) (frames : List Frame) (lines : List Due) (lawf
       (counted t c frames)
       (counted-until t c frames order)))
 
-  headline-at : (side : Side) (place port : ℕ) (l : LinkRow) → judged_to t c.taps side place port ≡ Some l
+  headline-at : (side : Side) (place port : ℕ) (l : LinkRow) → judged_to t c.sight side place port ≡ Some l
       → Explains (terms_at t c End l port) (sound_at t c End frames l side) (uncut_at t c End frames l side port)
       ↔ IsAsTheHeadline (terms_at t c End l port) (arrivals_of t c l.vl side frames)
       (frames_of t c l.vl side port frames)
@@ -256,7 +261,7 @@ module _ (t : Rows) (c : Choices) (frames : List Frame) (lines : List Due) (lawf
       ↔ IsAsTheHeadline (terms_at t c End l port) (arrivals_of t c l.vl side frames) ys) (uncut-is l side port)
       (exact_is_the_headline (terms_at t c End l port) (arrivals_of t c l.vl side frames)
       (uncut_at t c End frames l side port)
-      (exact-at l port) (bag-of t c side place port l lawful is) (arrivals-by-time t c frames order l.vl side))
+      (exact-at l port) (bag-of t c side place port l bags is) (arrivals-by-time t c frames order l.vl side))
 
   by-headline : IsByTheHeadline t c frames lines
   by-headline = record {
@@ -281,4 +286,5 @@ module _ (t : Rows) (c : Choices) (frames : List Frame) (lines : List Due) (lawf
   }
 
 pub is_the_headline : ConformsIsTheHeadline
-is_the_headline t c frames lines lawful order exact are = by-headline t c frames lines lawful order exact are
+is_the_headline t c frames lines lawful bags order exact are =
+    by-headline t c frames lines lawful bags order exact are

@@ -16,7 +16,6 @@ use Rattle.afdx_conform.specs.Histories.{counts_of, counts_with, judged_of, leas
 use Rattle.afdx_conform.specs.Leeway.{reach}
 use Rattle.afdx_conform.specs.Open.{AreLeastOpen}
 use Rattle.afdx_conform.specs.Streams.{Gone, Terms}
-use Rattle.afdx_law_bounds.specs.Tables.{rule_of}
 use Rattle.afdx_command_conform.specs.Counting.{Counted, counted_at, totals_of}
 use Rattle.afdx_command_conform.specs.Frames.{arrivals_of, frames_of, terms_at}
 use Rattle.afdx_command_conform.specs.VerdictLaws.{ConformsShowsAll, ExactShowsTheRule, IsShown, end_of}
@@ -120,14 +119,14 @@ shows_all k frames lines run conforms closed side place port l is =
     (omega (arith, less, closed)) in
     shown (terms_at k.0 k.1 (end_of k frames) l port) own left
     (arrivals-go k.0 k.1 frames run.by_time l.vl side)
-    (sound-by-time (rule_of k.0 l) own (arrivals-by-time k.0 k.1 frames run.by_time l.vl side))
+    (sound-by-time (k.1.sight.rule l) own (arrivals-by-time k.0 k.1 frames run.by_time l.vl side))
     (sure side place port l is) (quiet.1 side place port l is)
     (ap (λ (n : Counted). n.waiting) (sym (at-judged k.0 k.1 (end_of k frames) frames side l port p.judged)) ∙ here)
 
 -- ---- with exact stamps and clocks
 
 pub shows_the_rule : ExactShowsTheRule
-shows_the_rule k frames lines exact run conforms closed =
+shows_the_rule k frames lines exact bags run conforms closed =
     let all = shows_all k frames lines run conforms closed in
     record {
       none_strange = (conform-then k frames lines run conforms).2.none_strange;
@@ -139,6 +138,6 @@ shows_the_rule k frames lines exact run conforms closed =
             account = record { slack = exact.slack; drift = exact.drift; asked = exact.asked; start = exact.start };
             between = exact.between;
           })
-          (bag-of k.0 k.1 side place port l run.lawful is) (arrivals-by-time k.0 k.1 frames run.by_time l.vl side)
+          (bag-of k.0 k.1 side place port l bags is) (arrivals-by-time k.0 k.1 frames run.by_time l.vl side)
           s.are_answered s.are_allowed s.are_pairs;
     }

@@ -9,65 +9,65 @@ use Rattle.std.specs.List.{list_any}
 use Rattle.afdx_law_bounds.specs.Tables.{port_of}
 use Rattle.afdx_config.specs.Rows.{LinkRow, Rows}
 use Rattle.afdx_frame.specs.declared.link.Side.{Side}
-use Rattle.afdx_input_lines.specs.declared.role.Role.TheVariants.{Left}
-use Rattle.afdx_command_conform.specs.Tapped.{Taps, is_judged, judged_to, link_to, unseen_among, unseen_to}
+use Rattle.afdx_command_conform.specs.Sight.{Sight}
+use Rattle.afdx_command_conform.specs.Tapped.{is_judged, judged_to, link_to, unseen_among, unseen_to}
 
-module _ (t : Rows) (taps : Taps) (side : Side) (place port : ℕ) (l : LinkRow) where
-  pub to-judged : link_to t place port ≡ Some l → is_judged t taps side l port ≡ true
-      → judged_to t taps side place port ≡ Some l
+module _ (t : Rows) (sight : Sight) (side : Side) (place port : ℕ) (l : LinkRow) where
+  pub to-judged : link_to t place port ≡ Some l → is_judged t sight side l port ≡ true
+      → judged_to t sight side place port ≡ Some l
   unfolding judged_to
   to-judged to judged =
-      ap (λ o. option_and_then (λ k. if is_judged t taps side k port then Some k else None) o) to
+      ap (λ o. option_and_then (λ k. if is_judged t sight side k port then Some k else None) o) to
       ∙ ap (λ b. if b then Some l else None) judged
 
-  pub not-judged : link_to t place port ≡ Some l → is_judged t taps side l port ≡ false
-      → judged_to t taps side place port ≡ None
+  pub not-judged : link_to t place port ≡ Some l → is_judged t sight side l port ≡ false
+      → judged_to t sight side place port ≡ None
   unfolding judged_to
   not-judged to judged =
-      ap (λ o. option_and_then (λ k. if is_judged t taps side k port then Some k else None) o) to
+      ap (λ o. option_and_then (λ k. if is_judged t sight side k port then Some k else None) o) to
       ∙ ap (λ b. if b then Some l else None) judged
 
   -- a stream that is judged goes there
-  pub judged-is : judged_to t taps side place port ≡ Some l
-      → (link_to t place port ≡ Some l) × (is_judged t taps side l port ≡ true)
+  pub judged-is : judged_to t sight side place port ≡ Some l
+      → (link_to t place port ≡ Some l) × (is_judged t sight side l port ≡ true)
   unfolding judged_to
   judged-is is = by (link_to t place port) refl is
     where
-      judged-by : (k : LinkRow) (b : Bool) → is_judged t taps side k port ≡ b → link_to t place port ≡ Some k
+      judged-by : (k : LinkRow) (b : Bool) → is_judged t sight side k port ≡ b → link_to t place port ≡ Some k
           → (if b then Some k else None) ≡ Some l
-          → (link_to t place port ≡ Some l) × (is_judged t taps side l port ≡ true)
+          → (link_to t place port ≡ Some l) × (is_judged t sight side l port ≡ true)
       judged-by k true e to h = let same : k ≡ l = cc in
-          (to ∙ ap (λ x. Some x) same, ap (λ x. is_judged t taps side x port) (sym same) ∙ e)
+          (to ∙ ap (λ x. Some x) same, ap (λ x. is_judged t sight side x port) (sym same) ∙ e)
       judged-by k false e to h = absurd (cc)
 
       by : (o : Option LinkRow) → link_to t place port ≡ o
-          → option_and_then (λ k. if is_judged t taps side k port then Some k else None) o ≡ Some l
-          → (link_to t place port ≡ Some l) × (is_judged t taps side l port ≡ true)
+          → option_and_then (λ k. if is_judged t sight side k port then Some k else None) o ≡ Some l
+          → (link_to t place port ≡ Some l) × (is_judged t sight side l port ≡ true)
       by None none h = absurd (cc)
-      by (Some k) to h = judged-by k (is_judged t taps side k port) refl to h
+      by (Some k) to h = judged-by k (is_judged t sight side k port) refl to h
 
   -- that of a link that goes there is, or not
   pub judged-cases : link_to t place port ≡ Some l
-      → ((judged_to t taps side place port ≡ Some l) × (is_judged t taps side l port ≡ true))
-      ⊎ ((judged_to t taps side place port ≡ None) × (is_judged t taps side l port ≡ false))
-  judged-cases to = by (is_judged t taps side l port) refl
+      → ((judged_to t sight side place port ≡ Some l) × (is_judged t sight side l port ≡ true))
+      ⊎ ((judged_to t sight side place port ≡ None) × (is_judged t sight side l port ≡ false))
+  judged-cases to = by (is_judged t sight side l port) refl
     where
-      by : (b : Bool) → is_judged t taps side l port ≡ b
-          → ((judged_to t taps side place port ≡ Some l) × (is_judged t taps side l port ≡ true))
-          ⊎ ((judged_to t taps side place port ≡ None) × (is_judged t taps side l port ≡ false))
+      by : (b : Bool) → is_judged t sight side l port ≡ b
+          → ((judged_to t sight side place port ≡ Some l) × (is_judged t sight side l port ≡ true))
+          ⊎ ((judged_to t sight side place port ≡ None) × (is_judged t sight side l port ≡ false))
       by true e = inl (to-judged to e, e)
       by false e = inr (not-judged to e, e)
 
-pub no-stream : (t : Rows) (taps : Taps) (side : Side) (place port : ℕ) → link_to t place port ≡ None
-    → judged_to t taps side place port ≡ None
+pub no-stream : (t : Rows) (sight : Sight) (side : Side) (place port : ℕ) → link_to t place port ≡ None
+    → judged_to t sight side place port ≡ None
 unfolding judged_to
-no-stream t taps side place port to =
-    ap (λ o. option_and_then (λ k. if is_judged t taps side k port then Some k else None) o) to
+no-stream t sight side place port to =
+    ap (λ o. option_and_then (λ k. if is_judged t sight side k port then Some k else None) o) to
 
 -- ---- the ports that are recorded, of those of some systems
 
-abbrev pub seen_ports : Rows → Taps → Side → List ℕ → List ℕ
-seen_ports t taps side to = filter (taps Left side) (map (port_of t) to)
+abbrev pub seen_ports : Rows → Sight → Side → List ℕ → List ℕ
+seen_ports t sight side to = filter (sight.is_seen side) (map (port_of t) to)
 
 -- one among those that pass a test passes it
 pub any-kept : (f : ℕ → Bool) (p : ℕ) (xs : List ℕ) → list_any (λ q. nat_eq q p) (filter f xs) ≡ true → f p ≡ true
@@ -121,41 +121,41 @@ filter-pushed f xs x e = filter-append f xs (x ∷ []) ∙ ap (λ b. filter f xs
 
 -- ---- how many streams aren't judged
 
-module _ (t : Rows) (taps : Taps) (side : Side) where
-  pub unseen-append : (l : LinkRow) (xs : List ℕ) (system : ℕ) → unseen_to t taps side l (xs ++ system ∷ [])
-      ≡ unseen_to t taps side l xs + (if is_judged t taps side l (port_of t system) then 0 else 1)
+module _ (t : Rows) (sight : Sight) (side : Side) where
+  pub unseen-append : (l : LinkRow) (xs : List ℕ) (system : ℕ) → unseen_to t sight side l (xs ++ system ∷ [])
+      ≡ unseen_to t sight side l xs + (if is_judged t sight side l (port_of t system) then 0 else 1)
   unfolding unseen_to
   unseen-append l [] system = omega arith
   unseen-append l (x ∷ xs) system = let h = unseen-append l xs system in omega (arith, h)
 
-  pub unseen-none : (l : LinkRow) → unseen_to t taps side l [] ≡ 0
+  pub unseen-none : (l : LinkRow) → unseen_to t sight side l [] ≡ 0
   unfolding unseen_to
   unseen-none l = refl
 
-  pub among-none : unseen_among t taps side [] ≡ 0
+  pub among-none : unseen_among t sight side [] ≡ 0
   unfolding unseen_among
   among-none = refl
 
-  pub among-append : (xs : List LinkRow) (l : LinkRow) → unseen_among t taps side (xs ++ l ∷ [])
-      ≡ unseen_among t taps side xs + unseen_to t taps side l l.to
+  pub among-append : (xs : List LinkRow) (l : LinkRow) → unseen_among t sight side (xs ++ l ∷ [])
+      ≡ unseen_among t sight side xs + unseen_to t sight side l l.to
   unfolding unseen_among
   among-append [] l = omega arith
   among-append (x ∷ xs) l = let h = among-append xs l in omega (arith, h)
 
   -- one more system
   pub unseen-next : (l : LinkRow) (rank system : ℕ) → system ≡ get_or l.to rank system → rank < length l.to
-      → unseen_to t taps side l (take (rank + 1) l.to)
-      ≡ unseen_to t taps side l (take rank l.to) + (if is_judged t taps side l (port_of t system) then 0 else 1)
+      → unseen_to t sight side l (take (rank + 1) l.to)
+      ≡ unseen_to t sight side l (take rank l.to) + (if is_judged t sight side l (port_of t system) then 0 else 1)
   unseen-next l rank system is lt =
-      ap (λ xs. unseen_to t taps side l xs) (take_more l.to rank system lt ∙ ap (λ n. take rank l.to ++ n ∷ [])
+      ap (λ xs. unseen_to t sight side l xs) (take_more l.to rank system lt ∙ ap (λ n. take rank l.to ++ n ∷ [])
       (sym is))
       ∙ unseen-append l (take rank l.to) system
 
   -- one more link
   pub among-next : (links : List LinkRow) (place : ℕ) (l : LinkRow) → slice_get links place ≡ Some l
-      → unseen_among t taps side (take (place + 1) links)
-      ≡ unseen_among t taps side (take place links) + unseen_to t taps side l l.to
+      → unseen_among t sight side (take (place + 1) links)
+      ≡ unseen_among t sight side (take place links) + unseen_to t sight side l l.to
   among-next links place l at =
-      ap (λ xs. unseen_among t taps side xs) (take_more links place l (slice_get_within links place l at)
+      ap (λ xs. unseen_among t sight side xs) (take_more links place l (slice_get_within links place l at)
       ∙ ap (λ x. take place links ++ x ∷ []) (get_or_from_slice_get links place l l at))
       ∙ among-append (take place links) l

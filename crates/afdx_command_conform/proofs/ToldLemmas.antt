@@ -1,19 +1,19 @@
 -- What a run has told, step by step.
-use Rattle.std.proofs.Common.{Bor, ◌≡◌, ◌+◌, ◌++◌, ◌∷◌, ◌∙◌, [], ℕ, Bool, List, ap, arith, min, refl, subst, sym}
+use Rattle.std.proofs.Common.{Bor, ◌≡◌, ◌+◌, ◌++◌, ◌∷◌, ◌∙◌, [], ℕ, Bool, List, ap, ap₂, arith, min, refl, subst, sym}
 use Rattle.std.proofs.Common.{true, false}
 use Rattle.std.specs.Prelude.{Err, Ok, OnOk, Result}
 use Rattle.afdx_config.specs.Rows.{Rows}
 use Rattle.afdx_input_runs.specs.Joining.{Frame}
 use Rattle.afdx_text.specs.declared.conform_line.ConformLine.{ConformLine}
 use Rattle.afdx_command_conform.proofs.TellingLemmas.{findings-append, no-findings}
-use Rattle.afdx_command_conform.specs.Tapped.{taps_in}
+use Rattle.afdx_command_conform.specs.Sight.{sight_in}
 use Rattle.afdx_command_conform.specs.Choices.{Choices, is_in_time, is_missed, is_passed, left_out_of}
 use Rattle.afdx_command_conform.specs.ChoicesOf.{choices_of}
 use Rattle.afdx_command_conform.specs.Judging.{IsSameButTaken}
 use Rattle.afdx_command_conform.specs.Lines.{Due, lines_of}
 use Rattle.afdx_command_conform.specs.Telling.{findings_in, most_counted, one_if}
-use Rattle.afdx_command_conform.specs.Standing.{IsSameButKept}
-use Rattle.afdx_command_conform.specs.Told.{WorksBy}
+use Rattle.afdx_command_conform.specs.Standing.{IsSameButKept, seen_by}
+use Rattle.afdx_command_conform.specs.Told.{WorksBy, choices_in}
 use Rattle.afdx_command_conform.specs.declared.judging.JudgingRun.{JudgingRun}
 use Rattle.afdx_input_sources.specs.declared.taps.Taps.{Taps}
 use Rattle.afdx_command_conform.specs.declared.streams.Streams.{Streams}
@@ -26,12 +26,12 @@ told-rules same rules = record {
 }
 
 module _ (r : Rows × Choices) (frames : List Frame) (j k : JudgingRun) where
-  chosen-same : k.streams.taps ≡ j.streams.taps → k.choices ≡ j.choices
-      → choices_of (taps_in j.streams.taps.now) j.choices.now ≡ r.1
-      → choices_of (taps_in k.streams.taps.now) k.choices.now ≡ r.1
-  chosen-same taps choices is =
-      ap (λ (p : Bor Taps). choices_of (taps_in p.now) k.choices.now) taps
-      ∙ ap (λ b. choices_of (taps_in j.streams.taps.now) b.now) choices ∙ is
+  chosen-same : k.streams.tables ≡ j.streams.tables → k.streams.taps ≡ j.streams.taps → k.choices ≡ j.choices
+      → choices_in j ≡ r.1
+      → choices_in k ≡ r.1
+  chosen-same tables taps choices is =
+      ap₂ (λ (t : Bor Rows) (p : Bor Taps). choices_of (sight_in t.now p.now) k.choices.now) tables taps
+      ∙ ap (λ b. choices_of (seen_by j.streams) b.now) choices ∙ is
 
   -- what else changes doesn't matter
   pub works-same : (dues : List Due) → IsSameButKept j.streams k.streams
@@ -40,7 +40,7 @@ module _ (r : Rows × Choices) (frames : List Frame) (j k : JudgingRun) where
       → WorksBy r frames j dues → WorksBy r frames k dues
   works-same dues rules choices findings left_out latest h = record {
     tables_are = ap (λ (b : Bor Rows). b.now) rules.tables ∙ h.tables_are;
-    choices_are = chosen-same rules.taps choices h.choices_are;
+    choices_are = chosen-same rules.tables rules.taps choices h.choices_are;
     findings_are = findings ∙ h.findings_are;
     left_out_are = left_out ∙ h.left_out_are;
     latest_is = latest ∙ h.latest_is;
@@ -55,7 +55,7 @@ module _ (r : Rows × Choices) (frames : List Frame) (j k : JudgingRun) where
       → WorksBy r frames j old → WorksBy r frames k new
   works-more old new more rules choices left_out latest counted told h = record {
     tables_are = ap (λ (b : Bor Rows). b.now) rules.tables ∙ h.tables_are;
-    choices_are = chosen-same rules.taps choices h.choices_are;
+    choices_are = chosen-same rules.tables rules.taps choices h.choices_are;
     findings_are =
         let all = ap findings_in told ∙ findings-append (lines_of old) more in
         let before = h.findings_are in
@@ -102,22 +102,23 @@ pub works-next : (r : Rows × Choices) (frames : List Frame) (j k l : JudgingRun
     → IsSameButTaken j k
     → l.streams ≡ k.streams
     → l.choices ≡ k.choices → l.findings ≡ k.findings → l.left_out ≡ k.left_out → l.latest ≡ x.arrival.time
-    → (j.left_out ≡ min (left_out_of j.streams.tables.now (choices_of (taps_in j.streams.taps.now) j.choices.now)
+    → (j.left_out ≡ min (left_out_of j.streams.tables.now (choices_in j)
     frames) most_counted
-    → k.left_out ≡ min (left_out_of j.streams.tables.now (choices_of (taps_in j.streams.taps.now) j.choices.now)
+    → k.left_out ≡ min (left_out_of j.streams.tables.now (choices_in j)
     (x ∷ frames)) most_counted)
     → WorksBy r frames j dues → WorksBy r (x ∷ frames) l dues
 works-next r frames j k l dues x others streams choices findings left_out latest counted h =
     let by-r = subst (λ (o : Choices). j.left_out ≡ min (left_out_of r.0 o frames) most_counted
     → k.left_out ≡ min (left_out_of r.0 o (x ∷ frames)) most_counted) h.choices_are
-    (subst (λ (t : Rows). j.left_out ≡ min (left_out_of t (choices_of (taps_in j.streams.taps.now) j.choices.now)
+    (subst (λ (t : Rows). j.left_out ≡ min (left_out_of t (choices_in j)
     frames) most_counted
-    → k.left_out ≡ min (left_out_of t (choices_of (taps_in j.streams.taps.now) j.choices.now)
+    → k.left_out ≡ min (left_out_of t (choices_in j)
     (x ∷ frames)) most_counted) h.tables_are counted) in
     record {
       tables_are = ap (λ (s : Streams). s.tables.now) streams ∙ ap (λ (b : Bor Rows). b.now) others.rules.tables
           ∙ h.tables_are;
-      choices_are = chosen-same r frames j l (ap (λ (s : Streams). s.taps) streams ∙ others.rules.taps) (choices
+      choices_are = chosen-same r frames j l (ap (λ (s : Streams). s.tables) streams ∙ others.rules.tables)
+          (ap (λ (s : Streams). s.taps) streams ∙ others.rules.taps) (choices
           ∙ others.choices)
           h.choices_are;
       findings_are = findings ∙ others.findings ∙ h.findings_are;
@@ -127,7 +128,7 @@ works-next r frames j k l dues x others streams choices findings left_out latest
 
 -- nothing is told
 pub works-none : (r : Rows × Choices) (judging : JudgingRun) → judging.streams.tables.now ≡ r.0
-    → choices_of (taps_in judging.streams.taps.now) judging.choices.now ≡ r.1
+    → choices_in judging ≡ r.1
     → judging.findings ≡ 0 → judging.left_out ≡ 0 → judging.latest ≡ 0 → WorksBy r [] judging []
 works-none r judging tables choices none some at = record {
   tables_are = tables;

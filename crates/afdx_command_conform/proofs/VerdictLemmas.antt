@@ -160,9 +160,9 @@ module _ (k : Rows × Choices) (frames : List Frame) (lines : List Due) (run : I
   left-then : 0 < N.explained → SomeLeft k frames
   left-then h =
       let s = some-stream k.0 k.1 End frames (omega (arith, h)) in
-      by s (is_judged k.0 k.1.taps s.side s.link (port_of k.0 s.system)) refl s.some
+      by s (is_judged k.0 k.1.sight s.side s.link (port_of k.0 s.system)) refl s.some
     where
-      by : (s : SomeStream k.0 k.1 End frames) (b : Bool) → is_judged k.0 k.1.taps s.side s.link
+      by : (s : SomeStream k.0 k.1 End frames) (b : Bool) → is_judged k.0 k.1.sight s.side s.link
           (port_of k.0 s.system) ≡ b
           → 0 < (counted_at k.0 k.1 End frames s.side s.link (port_of k.0 s.system)).explained → SomeLeft k frames
       by s true e some =
@@ -230,8 +230,8 @@ conforms_explained k frames lines run = (
 )
 
 pub exact_conforms : ExactConforms
-exact_conforms k frames lines exact run =
-    let e = is_the_headline k.0 k.1 frames lines run.lawful run.by_time exact run.are_lines in (
+exact_conforms k frames lines exact bags run =
+    let e = is_the_headline k.0 k.1 frames lines run.lawful bags run.by_time exact run.are_lines in (
       λ h. let p = conforms-parts (totals_of k frames lines) h in (
         left-then k frames lines run p.some,
         e.found.0 (found-zero k frames lines run p.none),
@@ -241,9 +241,9 @@ exact_conforms k frames lines exact run =
     )
 
 pub never_deviates : RightNeverDeviates
-never_deviates k frames lines findings drift run right h =
+never_deviates k frames lines findings drift bags run right h =
     never-deviates (totals_of k frames lines) findings
-    (zero-found k frames lines run (right_conforms k.0 k.1 (end_of k frames) frames lines run.lawful run.by_time drift
+    (zero-found k frames lines run (right_conforms k.0 k.1 (end_of k frames) frames lines run.lawful bags run.by_time drift
     run.are_lines right)) h
 
 -- ---- what is written

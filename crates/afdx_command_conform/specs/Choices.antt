@@ -13,16 +13,17 @@ use Rattle.afdx_input_runs.specs.Joining.{Frame}
 use Rattle.afdx_conform.specs.Explanations.{from_time}
 use Rattle.afdx_conform.specs.Leeway.{Leeway, reach}
 use Rattle.afdx_conform.specs.LimitRanges.{most_bytes}
-use Rattle.afdx_command_conform.specs.Tapped.{Taps, is_unheard}
+use Rattle.afdx_command_conform.specs.Sight.{Sight}
+use Rattle.afdx_command_conform.specs.Tapped.{is_unheard}
 
 -- The leeway, with the start from which on frames count; the end after which they don't, if one is
--- said; the links whose frames are left out, `None` for those of no link; the ports that were
--- recorded; and whether it conforms only if something is shown of each stream that is judged.
+-- said; the links whose frames are left out, `None` for those of no link; what is seen of the
+-- switch; and whether it conforms only if something is shown of each stream that is judged.
 pub record Choices : Type 0 where
   pub by : Leeway
   pub until : Option ℕ
   pub left_out : List (Option VlId)
-  pub taps : Taps
+  pub sight : Sight
   pub exercised : Bool
 
 -- the end of the recordings, if one is said, is no later than any time of a list
@@ -58,7 +59,7 @@ module _ (c : Choices) where
 module _ (t : Rows) (c : Choices) where
   -- it is passed over, for its link or because its sender's port isn't recorded
   abbrev pub is_passed : Frame → Bool
-  is_passed x = is_left_out c x || is_unheard t c.taps x
+  is_passed x = is_left_out c x || is_unheard t c.sight x
 
   -- it counts, if it isn't longer than any frame on a line
   unfoldable pub counts : Frame → Bool

@@ -75,7 +75,7 @@ both_counted a b = record {
 module _ (t : Rows) (c : Choices) (until : ℕ) (frames : List Frame) where
   -- of a link's stream at a port, if it is judged
   unfoldable pub counted_at : Side → LinkRow → (port : ℕ) → Counted
-  counted_at side l port = if is_judged t c.taps side l port
+  counted_at side l port = if is_judged t c.sight side l port
       then stream_counted (terms_at t c until l port)
       (reverse (arrivals_of t c l.vl side frames)) (reverse (frames_of t c l.vl side port frames))
       else none_counted
@@ -127,11 +127,11 @@ totals_with findings left_out unseen is_exercised n = record {
 -- of all these frames, of which these are all lines, and of so many findings more
 abbrev pub totals_and : ℕ → Rows × Choices → List Frame → List Due → Totals
 totals_and more k frames lines = totals_with (findings_in (lines_of lines) + more)
-    (left_out_of k.0 k.1 frames) (unseen_of k.0 k.1.taps) k.1.exercised
+    (left_out_of k.0 k.1 frames) (unseen_of k.0 k.1.sight) k.1.exercised
     (counted_of k.0 k.1 (until_or k.1.until frames) frames)
 
 -- of these alone
 abbrev pub totals_of : Rows × Choices → List Frame → List Due → Totals
 totals_of k frames lines = totals_with (findings_in (lines_of lines)) (left_out_of k.0 k.1 frames)
-    (unseen_of k.0 k.1.taps) k.1.exercised
+    (unseen_of k.0 k.1.sight) k.1.exercised
     (counted_of k.0 k.1 (until_or k.1.until frames) frames)

@@ -1,7 +1,6 @@
 -- Of the frames of both roles those of a stream, and those of none. Lists of frames have the newest
 -- first.
-use Rattle.std.specs.Prelude.{ℕ, ◌*◌, Bool, not, ◌&&◌, ◌||◌, nat_eq, List, filter, map}
-use Rattle.afdx_law_bounds.specs.Tables.{rule_of, byte_ns_at}
+use Rattle.std.specs.Prelude.{ℕ, Bool, not, ◌&&◌, ◌||◌, nat_eq, List, filter, map}
 use Rattle.afdx_config.specs.Rows.{Rows, LinkRow}
 use Rattle.afdx_frame.specs.declared.link.Side.{Side}
 use Rattle.afdx_frame.specs.Sides.{is_side}
@@ -10,7 +9,8 @@ use Rattle.afdx_input_runs.specs.Joining.{Frame}
 use Rattle.afdx_police.specs.Arrival.{Arrival, names}
 use Rattle.afdx_conform.specs.Streams.{Gone, Terms}
 use Rattle.afdx_command_conform.specs.Choices.{Choices, counted}
-use Rattle.afdx_command_conform.specs.Tapped.{Taps, goes_there, is_heard_at, is_of_came}
+use Rattle.afdx_command_conform.specs.Sight.{Sight}
+use Rattle.afdx_command_conform.specs.Tapped.{goes_there, is_heard_at, is_of_came}
 unfoldable pub use Rattle.afdx_command_conform.specs.Tapped.{link_to, place_named}
 
 abbrev pub frame_with : Role → Arrival → Frame
@@ -31,9 +31,9 @@ gone_of x = record { number = x.tag; time = x.time; bytes = x.bytes }
 
 -- what left at a port is of no stream: its bytes name no link that goes there and whose sender's
 -- port is recorded on its side
-unfoldable pub is_stranger : Rows → Taps → Arrival → Bool
-is_stranger t taps x =
-    not (goes_there t x) || not (is_heard_at t taps x.side (place_named t x.bytes))
+unfoldable pub is_stranger : Rows → Sight → Arrival → Bool
+is_stranger t o x =
+    not (goes_there t x) || not (is_heard_at t o x.side (place_named t x.bytes))
 
 -- the frames that count: a link's arrivals on a side, what left of it at a port, and what left
 -- there that is of no stream
@@ -47,14 +47,14 @@ frames_of t c vl side port frames = map (λ x. gone_of x.arrival)
 
 abbrev pub strangers_of : Rows → Choices → Side → ℕ → List Frame → List Arrival
 strangers_of t c side port frames = map (λ x. x.arrival)
-    (filter (λ x. left_at side port x && is_stranger t c.taps x.arrival) (counted t c frames))
+    (filter (λ x. left_at side port x && is_stranger t c.sight x.arrival) (counted t c frames))
 
 -- what the stream of a link at a port is judged by
 abbrev pub terms_at : Rows → Choices → (until : ℕ) → LinkRow → (port : ℕ) → Terms
 terms_at t c until l port = record {
-  rule = rule_of t l;
-  latency_ns = 1000 * l.latency_us;
-  byte_ns = byte_ns_at t port;
+  rule = c.sight.rule l;
+  latency_ns = c.sight.latency_ns l port;
+  byte_ns = c.sight.byte_ns l port;
   by = c.by;
   until = until;
 }

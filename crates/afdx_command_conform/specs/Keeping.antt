@@ -68,7 +68,7 @@ abbrev pub given_by : Rows → Choices → List Frame → Key → Option ℕ →
 given_by t c frames k None =
     given_with [] [] (map (stranger_due t k) (strangers_of t c k.side k.port frames))
 given_by t c frames k (Some place) =
-    given_to t c k frames (judged_to t c.taps k.side place k.port)
+    given_to t c k frames (judged_to t c.sight k.side place k.port)
 
 unfoldable pub given_of : Rows → Choices → List Frame → Key → Given
 given_of t c frames k = given_by t c frames k k.link

@@ -1,3 +1,4 @@
+pub mod Sight
 pub mod Tapped
 pub mod Choices
 pub mod ChoicesOf
@@ -12,6 +13,7 @@ pub mod Lines
 pub mod Slots
 pub mod Keeping
 pub mod Standing
+pub mod Ruled
 pub mod Taking
 pub mod Holding
 pub mod Judging

@@ -102,7 +102,7 @@ module _ (t : Rows) (c : Choices) (until : ℕ) (frames : List Frame) where
   abbrev pub dues_by : Key → Option ℕ → List Due
   dues_by k None = map (stranger_due t k) (strangers_of t c k.side k.port frames)
   dues_by k (Some place) =
-      option_map_or (stream_dues k) (judged_to t c.taps k.side place k.port) []
+      option_map_or (stream_dues k) (judged_to t c.sight k.side place k.port) []
 
   -- the lines of a key: a stream's depend on its own arrivals and frames alone
   abbrev pub dues_of : Key → List Due

@@ -16,7 +16,8 @@ use Rattle.afdx_command_conform.specs.Counting.{totals_of}
 use Rattle.afdx_command_conform.specs.Frames.{arrivals_of, frames_of, terms_at}
 use Rattle.afdx_command_conform.specs.Lines.{AreLines, Due, judged_at}
 use Rattle.afdx_command_conform.specs.RunLaws.{AreAll, NothingIsFound}
-use Rattle.afdx_command_conform.specs.Tapped.{Taps, judged_to, unseen_of}
+use Rattle.afdx_command_conform.specs.Sight.{Sight}
+use Rattle.afdx_command_conform.specs.Tapped.{judged_to, unseen_of}
 use Rattle.afdx_command_conform.specs.VerdictLaws.{end_of}
 
 -- nothing is found of the stream of a link at a port of a side, and nothing of it is open
@@ -56,13 +57,13 @@ LastLineIsQuiet =
 -- gets it
 abbrev pub NoneUnseenIsJudged : Type 0
 NoneUnseenIsJudged =
-    (t : Rows) (taps : Taps) (side : Side) (place system : ℕ) (l : LinkRow) (s : SystemRow) →
+    (t : Rows) (o : Sight) (side : Side) (place system : ℕ) (l : LinkRow) (s : SystemRow) →
     IsLawfulSwitch t →
-    unseen_of t taps ≡ 0 →
+    unseen_of t o ≡ 0 →
     slice_get t.links place ≡ Some l →
     slice_get t.systems system ≡ Some s →
     is_to system l ≡ true →
-    judged_to t taps side place s.port ≡ Some l
+    judged_to t o side place s.port ≡ Some l
 
 -- where nothing is left out, all frames from start to end count that are no longer than any on a
 -- line

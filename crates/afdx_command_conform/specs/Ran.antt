@@ -24,7 +24,7 @@ use Rattle.afdx_text.specs.declared.conform_line.ConformLine.TheVariants.{Judged
 use Rattle.afdx_command_conform.specs.AllLines.{AreAllLines, AreEarlyLines, AreSomeLines}
 use Rattle.afdx_command_conform.specs.Choices.{Choices}
 use Rattle.afdx_command_conform.specs.ChoicesOf.{choices_of}
-use Rattle.afdx_command_conform.specs.Tapped.{Taps}
+use Rattle.afdx_command_conform.specs.Tapped.{Taps, of_tables}
 use Rattle.afdx_command_conform.specs.Written.{Begins, BeginsWhole, Writes, WritesLines, WritesWhole}
 use Rattle.afdx_command_conform.specs.declared.choices.Choices as asked
 use Rattle.afdx_command_conform.specs.declared.run.RunCounts.{RunCounts}
@@ -130,5 +130,6 @@ abbrev pub Answers : {B I : Type 0} → Option B →
     Rows → Taps → asked.Choices → (old new : Option (List ℕ)) → Result RunCounts RunFault →
     Type 0
 Answers known Takes inputs t taps choices old new answer = IfSome known (λ bytes.
-    ConformAnswers (Takes (ports_of_one t) bytes inputs) (t, choices_of taps choices)
+    ConformAnswers (Takes (ports_of_one t) bytes inputs)
+    (t, choices_of (of_tables t taps) choices)
     choices.is_lossy old new answer)

@@ -17,7 +17,7 @@ use Rattle.afdx_command_conform.specs.Frames.{frame_with}
 use Rattle.afdx_command_conform.specs.Keys.{key_with}
 use Rattle.afdx_command_conform.specs.Lines.{AreLines, Due, due_at, found_line}
 use Rattle.afdx_command_conform.specs.RunLaws.{AreByTime, AreOfRight, IsExactBy}
-use Rattle.afdx_command_conform.specs.Tapped.{all_taps}
+use Rattle.afdx_command_conform.specs.Tapped.{all_taps, of_tables}
 use Rattle.afdx_command_conform.specs.VerdictLaws.{answered}
 use Rattle.afdx_command_conform.specs.declared.key.Key.{Key}
 
@@ -46,7 +46,7 @@ choices = record {
   by = leeway_with 0 0 0 0 0 None;
   until = None;
   left_out = [];
-  taps = all_taps;
+  sight = of_tables tables all_taps;
   exercised = false;
 }
 

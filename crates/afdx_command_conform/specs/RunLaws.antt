@@ -2,7 +2,6 @@
 use Rattle.std.specs.Prelude.{ℕ, ◌<◌, ◌≤◌, ◌≡◌, ◌↔◌, false, ⊤, None, Some, List, [], ◌∷◌, ◌++◌, length, map}
 use Rattle.afdx_config.specs.Lawful.{IsLawfulSwitch}
 use Rattle.afdx_config.specs.Rows.{Rows, LinkRow}
-use Rattle.afdx_law_bounds.specs.Tables.{rule_of}
 use Rattle.afdx_frame.specs.declared.link.Side.{Side}
 use Rattle.afdx_input_runs.specs.Joining.{Frame}
 use Rattle.afdx_police.specs.Arrival.{Arrival}
@@ -17,6 +16,7 @@ use Rattle.afdx_conform.specs.Streams.{Gone, Terms}
 use Rattle.afdx_command_conform.specs.Choices.{Choices, latest_of, until_or}
 use Rattle.afdx_command_conform.specs.Frames.{arrivals_of, frames_of, strangers_of, terms_at}
 use Rattle.afdx_command_conform.specs.Lines.{AreLines, Due, judged_at, lines_of}
+use Rattle.afdx_command_conform.specs.Sight.{HasBags}
 use Rattle.afdx_command_conform.specs.Tapped.{judged_to}
 use Rattle.afdx_command_conform.specs.Telling.{findings_in}
 
@@ -47,7 +47,7 @@ pub record IsOfRight (z : Terms) (sound : List Arrival) (frames : List Gone) : T
 module _ (t : Rows) (c : Choices) (until : ℕ) (frames : List Frame) where
   -- the arrivals of a link on a side without a fault in their shape
   abbrev pub sound_at : LinkRow → Side → List Arrival
-  sound_at l side = sound_of (rule_of t l) (arrivals_of t c l.vl side frames)
+  sound_at l side = sound_of (c.sight.rule l) (arrivals_of t c l.vl side frames)
 
   -- what left of it at a port, as far as stamps can tell before the end
   abbrev pub uncut_at : LinkRow → Side → ℕ → List Gone
@@ -57,7 +57,7 @@ module _ (t : Rows) (c : Choices) (until : ℕ) (frames : List Frame) where
   -- each stream that is judged is so
   abbrev pub AreAll : (LinkRow → Side → ℕ → Type 0) → Type 0
   AreAll IsSo = (side : Side) (place port : ℕ) (l : LinkRow) →
-      judged_to t c.taps side place port ≡ Some l → IsSo l side port
+      judged_to t c.sight side place port ≡ Some l → IsSo l side port
 
   -- no frame left that is of no stream; a port is a byte
   abbrev pub NoneIsStrange : Type 0
@@ -137,6 +137,7 @@ abbrev pub ConformsIsTheHeadline : Type 0
 ConformsIsTheHeadline =
     (t : Rows) (c : Choices) (frames : List Frame) (lines : List Due) →
     IsLawfulSwitch t →
+    HasBags t c.sight →
     AreByTime frames →
     IsExactBy c.by →
     AreLines t c (until_or c.until frames) frames lines →
@@ -147,6 +148,7 @@ abbrev pub RightConforms : Type 0
 RightConforms =
     (t : Rows) (c : Choices) (until : ℕ) (frames : List Frame) (lines : List Due) →
     IsLawfulSwitch t →
+    HasBags t c.sight →
     AreByTime frames →
     c.by.drift < parts →
     AreLines t c until frames lines →

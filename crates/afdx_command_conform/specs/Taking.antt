@@ -3,14 +3,13 @@
 use Rattle.std.specs.Prelude.{◌≡◌, ℕ, ◌+◌, ◌<◌, ◌≤◌, true, List, [], ◌∷◌, All, length, Option, Some, None, slice_get}
 use Rattle.std.specs.List.{AllByRecursion}
 use Rattle.std.specs.List.Sorted.{IsPermutation}
-use Rattle.afdx_law_bounds.specs.Tables.{port_of, rule_of}
+use Rattle.afdx_law_bounds.specs.Tables.{port_of}
 use Rattle.afdx_config.specs.Lawful.{IsLawfulSwitch}
 use Rattle.afdx_config.specs.Rows.{LinkRow, Rows, is_to}
 use Rattle.afdx_conform.specs.Explanations.{from_time}
 use Rattle.afdx_conform.specs.Growing.{MayCome, MayLeave}
 use Rattle.afdx_conform.specs.Histories.{nothing_judged}
 use Rattle.afdx_conform.specs.Leeway.{reach}
-use Rattle.afdx_conform.specs.LeewayOf.{leeway_of}
 use Rattle.afdx_conform.specs.Limits.{gone_of}
 use Rattle.afdx_conform.specs.Marks.{IsJudged, arrival_of}
 use Rattle.afdx_conform.specs.Ranges.{most_held}
@@ -26,6 +25,7 @@ use Rattle.afdx_command_conform.specs.Frames.{terms_at}
 use Rattle.afdx_command_conform.specs.Keeping.{AreKept, Given, IsStreamOf, is_known, kept_with, slot_at, with_came, with_left, with_strange}
 use Rattle.afdx_command_conform.specs.Keys.{IsKey, key_of}
 use Rattle.afdx_command_conform.specs.Lines.{Due}
+use Rattle.afdx_command_conform.specs.Ruled.{IsRuled}
 use Rattle.afdx_command_conform.specs.Slots.{AreFalling, IsStrange, IsStream, told_at, waiting_due}
 use Rattle.afdx_command_conform.specs.Standing.{IsBehindAll, StreamsStand}
 use Rattle.afdx_command_conform.specs.Tapped.{place_named}
@@ -103,7 +103,7 @@ module _ (done : Type 0 → Type 0) (old new : KeptByKey) where
         let t = rules.tables.now in
         (c : Choices) (until time : ℕ) (given : Key → Given) (lines : List Due) (l : LinkRow) →
         IsLawfulSwitch t → IsStreamOf t key l → slice_get t.links outlet.link ≡ Some l →
-        port_of t outlet.system.0 ≡ key.port → leeway_of rules.leeway ≡ c.by →
+        port_of t outlet.system.0 ≡ key.port → IsRuled rules c →
         (IsStream (slot_at old.slots.items key) → ⊥) →
         AreKept t c until None time given lines old →
         done (AreKept t c until None time given lines new
@@ -116,8 +116,8 @@ module _ (done : Type 0 → Type 0) (old new : KeptByKey) where
         let t = rules.tables.now in
         (c : Choices) (until time : ℕ) (given : Key → Given) (lines : List Due) (l : LinkRow) →
         slice_get t.links outlet.link ≡ Some l → is_to outlet.system.0 l ≡ true →
-        leeway_of rules.leeway ≡ c.by →
-        ((z : Terms) → z.rule ≡ rule_of t l → IsJudged z x) →
+        IsRuled rules c →
+        ((z : Terms) → z.rule ≡ c.sight.rule l → IsJudged z x) →
         time ≤ x.time → from_time c.by.start ≤ x.time →
         AllByRecursion (λ w. w.time ≤ x.time) (given (key_of t outlet)).came →
         length (given (key_of t outlet)).came + 1 < most_held →
@@ -131,7 +131,7 @@ module _ (done : Type 0 → Type 0) (old new : KeptByKey) where
         let t = rules.tables.now in
         (c : Choices) (until time : ℕ) (given : Key → Given) (lines : List Due) (l : LinkRow) →
         slice_get t.links outlet.link ≡ Some l → is_to outlet.system.0 l ≡ true →
-        leeway_of rules.leeway ≡ c.by → time ≤ y.time →
+        IsRuled rules c → time ≤ y.time →
         from_time c.by.start ≤ y.time + reach c.by →
         AllByRecursion (λ w. w.time ≤ y.time) (given (key_of t outlet)).left →
         length (given (key_of t outlet)).left + 1 < most_held →
@@ -145,7 +145,7 @@ FindsStream done old new rules outlet =
     let t = rules.tables.now in
     (c : Choices) (until time : ℕ) (given : Key → Given) (lines : List Due) (l : LinkRow) →
     slice_get t.links outlet.link ≡ Some l → is_to outlet.system.0 l ≡ true →
-    leeway_of rules.leeway ≡ c.by → AreKept t c until None time given lines old →
+    IsRuled rules c → AreKept t c until None time given lines old →
     done (λ key. IsStreamOf t key l × IsStream (slot_at new.slots.items key)
     × AreKept t c until None time given lines new)
 

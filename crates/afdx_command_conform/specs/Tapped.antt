@@ -14,7 +14,9 @@ use Rattle.afdx_police.specs.Arrival.{Arrival}
 use Rattle.afdx_police.specs.Shape.{fault_of}
 use Rattle.afdx_police.specs.declared.shape.Reason.{Reason}
 use Rattle.afdx_police.specs.declared.shape.Reason.TheVariants.{TooShort, TooLong, BadFcs}
-pub use Rattle.afdx_input_sources.specs.Tapping.{Taps, all_taps, taps_in}
+use Rattle.afdx_command_conform.specs.Sight.{Sight}
+pub use Rattle.afdx_command_conform.specs.Sight.{of_tables, sight_in}
+pub use Rattle.afdx_input_sources.specs.Tapping.{Taps, all_taps}
 
 abbrev pub is_of_came : Role → Bool
 is_of_came Came = true
@@ -44,10 +46,10 @@ is_damage (Some reason) = false
 unfoldable pub is_damaged : List ℕ → Bool
 is_damaged bytes = is_damage (fault_of None 0 bytes)
 
-module _ (t : Rows) (taps : Taps) where
+module _ (t : Rows) (o : Sight) where
   -- the port at which a link comes in is recorded on this side
   abbrev pub is_heard : Side → LinkRow → Bool
-  is_heard side l = taps Came side (port_of t l.from)
+  is_heard side l = o.is_heard side l
 
   -- that of the link at this place, if there is one
   abbrev pub is_heard_at : Side → Option ℕ → Bool
@@ -62,7 +64,7 @@ module _ (t : Rows) (taps : Taps) where
 
   -- the stream of a link at a port is judged: both ports are recorded
   abbrev pub is_judged : Side → LinkRow → ℕ → Bool
-  is_judged side l port = is_heard side l && taps Left side port
+  is_judged side l port = is_heard side l && o.is_seen side port
 
   -- the link at this place, if it goes to the port and its stream there is judged
   unfoldable pub judged_to : Side → (place port : ℕ) → Option LinkRow

@@ -17,18 +17,21 @@ use Rattle.afdx_command_conform.specs.Telling.{findings_in, lines_text, most_cou
 use Rattle.afdx_command_conform.specs.Keeping.{IsNothingDue}
 pub use Rattle.afdx_command_conform.specs.Lines.{Due, lines_of}
 use Rattle.afdx_command_conform.specs.RunLaws.{AreByTime}
-use Rattle.afdx_command_conform.specs.Standing.{StreamsStand}
-use Rattle.afdx_command_conform.specs.Tapped.{taps_in}
+use Rattle.afdx_command_conform.specs.Standing.{StreamsStand, seen_by}
 use Rattle.afdx_command_conform.specs.Written.{WritesLines}
 use Rattle.afdx_command_conform.specs.declared.streams.Streams.{Streams}
 use Rattle.afdx_command_conform.specs.declared.judging.JudgingRun.{JudgingRun}
+
+-- what is asked of it
+abbrev pub choices_in : JudgingRun → Choices
+choices_in j = choices_of (seen_by j.streams) j.choices.now
 
 -- it works by these tables and choices; so many of these lines are counted as findings; of the
 -- frames so many are left out, and that is the time of the last
 pub record WorksBy (k : Rows × Choices) (frames : List Frame) (judging : JudgingRun)
     (dues : List Due) : Type 0 where
   pub tables_are : judging.streams.tables.now ≡ k.0
-  pub choices_are : choices_of (taps_in judging.streams.taps.now) judging.choices.now ≡ k.1
+  pub choices_are : choices_in judging ≡ k.1
   pub findings_are : judging.findings ≡ min (findings_in (lines_of dues)) most_counted
   pub left_out_are : judging.left_out ≡ min (left_out_of k.0 k.1 frames) most_counted
   pub latest_is : judging.latest ≡ latest_of frames
@@ -146,7 +149,7 @@ abbrev pub TakesNext : (Type 0 → Type 0) → JudgingRun → JudgingRun → (ti
 TakesNext done old new time x =
     (k : Rows × Choices) (frames : List Frame) (dues : List Due) →
     old.streams.tables.now ≡ k.0 →
-    choices_of (taps_in old.streams.taps.now) old.choices.now ≡ k.1 →
+    choices_in old ≡ k.1 →
     latest_of frames ≤ time → length frames + 1 < most_held →
     Stands k false time old frames dues →
     done (Stands k false time new (x ∷ frames) dues)

@@ -1,6 +1,5 @@
 -- Laws over what a run answers. Lists have the newest first.
 use Rattle.std.specs.Prelude.{ℕ, ◌<◌, ◌≡◌, ◌↔◌, true, Option, Some, List, length}
-use Rattle.afdx_law_bounds.specs.Tables.{rule_of}
 use Rattle.afdx_config.specs.Lawful.{IsLawfulSwitch}
 use Rattle.afdx_config.specs.Rows.{Rows, LinkRow}
 use Rattle.afdx_frame.specs.declared.link.Side.{Side}
@@ -21,6 +20,7 @@ use Rattle.afdx_command_conform.specs.Counting.{totals_of}
 use Rattle.afdx_command_conform.specs.Frames.{arrivals_of, frames_of, terms_at}
 use Rattle.afdx_command_conform.specs.Lines.{AreLines, Due}
 use Rattle.afdx_command_conform.specs.RunLaws.{AreAll, AreAsTheHeadline, AreByTime, AreExplained, AreOfRight, AreSure, IsExactBy, NoneIsStrange, sound_at, uncut_at}
+use Rattle.afdx_command_conform.specs.Sight.{HasBags}
 use Rattle.afdx_command_conform.specs.Tapped.{judged_to}
 use Rattle.afdx_command_conform.specs.Totals.{answer_of}
 use Rattle.afdx_command_conform.specs.Written.{WritesWhole}
@@ -40,7 +40,7 @@ module _ (k : Rows × Choices) (frames : List Frame) where
     pub place : ℕ
     pub port : ℕ
     pub link : LinkRow
-    pub judged : judged_to k.0 k.1.taps side place port ≡ Some link
+    pub judged : judged_to k.0 k.1.sight side place port ≡ Some link
     pub some : 0 < length (uncut_at k.0 k.1 end_of frames link side port)
 
   -- a run of lawful tables, of frames that go by time, of which these are all lines
@@ -69,6 +69,7 @@ abbrev pub ExactConforms : Type 0
 ExactConforms =
     (k : Rows × Choices) (frames : List Frame) (lines : List Due) →
     IsExactBy k.1.by →
+    HasBags k.0 k.1.sight →
     IsRun k frames lines →
     (answered k frames lines ≡ Conforms)
     ↔ (SomeLeft k frames × AreAsTheHeadline k.0 k.1 (end_of k frames) frames
@@ -81,13 +82,14 @@ pub record IsTheRule (k : Rows × Choices) (frames : List Frame) : Type 0 where
   pub none_strange : NoneIsStrange k.0 k.1 (end_of k frames) frames
   pub streams : AreAll k.0 k.1 (end_of k frames) frames (λ l side port.
       AreTheirFrames (terms_at k.0 k.1 (end_of k frames) l port)
-      (accepted_arrivals (rule_of k.0 l) (arrivals_of k.0 k.1 l.vl side frames))
+      (accepted_arrivals (k.1.sight.rule l) (arrivals_of k.0 k.1 l.vl side frames))
       (frames_of k.0 k.1 l.vl side port frames))
 
 abbrev pub ExactShowsTheRule : Type 0
 ExactShowsTheRule =
     (k : Rows × Choices) (frames : List Frame) (lines : List Due) →
     IsExactBy k.1.by →
+    HasBags k.0 k.1.sight →
     IsRun k frames lines →
     answered k frames lines ≡ Conforms →
     (totals_of k frames lines).waiting ≡ 0 →
@@ -98,6 +100,7 @@ abbrev pub RightNeverDeviates : Type 0
 RightNeverDeviates =
     (k : Rows × Choices) (frames : List Frame) (lines : List Due) (findings : ℕ) →
     k.1.by.drift < parts →
+    HasBags k.0 k.1.sight →
     IsRun k frames lines →
     AreOfRight k.0 k.1 (end_of k frames) frames →
     answered k frames lines ≡ Deviates findings →

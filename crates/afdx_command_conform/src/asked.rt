@@ -5,7 +5,7 @@ ghost use Rattle.std.specs.List.{list_any};
 ghost use Rattle.afdx_command_conform.specs.Choices as asked;
 ghost use Rattle.afdx_command_conform.specs.Choices.{Choices as Chosen};
 ghost use Rattle.afdx_command_conform.specs.ChoicesOf.{choices_of};
-ghost use Rattle.afdx_command_conform.specs.Tapped.{Taps};
+ghost use Rattle.afdx_command_conform.specs.Sight.{Sight};
 ghost use Rattle.afdx_conform.specs.LeewayOf.{leeway_of};
 ghost use Rattle.afdx_input_sources.specs.Engine.{item_of};
 ghost use Rattle.afdx_input_runs.specs.Joining.{frame_of};
@@ -41,8 +41,8 @@ fn is_before(leeway: &Leeway, role: Role, time: u64) -> bool
 
 /// Whether a line lies from the start to the end.
 pub fn is_in_time(choices: &Choices, seen: &Seen) -> bool
-    ensures { (taps : Taps) (bytes : List ℕ) (n : ℕ) →
-        result ≡ asked.is_in_time (choices_of taps choices.now)
+    ensures { (sight : Sight) (bytes : List ℕ) (n : ℕ) →
+        result ≡ asked.is_in_time (choices_of sight choices.now)
         (frame_of (item_of n seen.now bytes)) }
 {
     let time = seen.heading.time;

@@ -8,7 +8,7 @@ ghost use Rattle.afdx_command_conform.specs.Choices.{Choices};
 ghost use Rattle.afdx_command_conform.specs.Counting.{AreEnded, Counted, HasCounted, both_counted};
 ghost use Rattle.afdx_command_conform.specs.Counting.{counted_among, counted_at, counted_of, counted_to};
 ghost use Rattle.afdx_command_conform.specs.Counting.{none_counted};
-ghost use Rattle.afdx_command_conform.specs.Tapped.{taps_in};
+ghost use Rattle.afdx_command_conform.specs.Sight.{sight_in};
 
 use crate::kept::KeptByKey;
 use crate::outlets::{Outlet, key_at, receiver};
@@ -28,7 +28,7 @@ fn count_at(tables: &Tables, taps: &Taps, kept: &KeptByKey, outlet: Outlet, tota
     ensures exercised { totals.new.is_exercised ≡ totals.old.is_exercised }
     ensures counted { (c : Choices) (until : ℕ) (frames : List Seen) (n : Counted) (l : LinkRow) →
         slice_get tables.now.links outlet.link ≡ Some l → is_to outlet.system.0 l ≡ true →
-        taps_in taps.now ≡ c.taps → AreEnded tables.now c until frames kept.now →
+        sight_in tables.now taps.now ≡ c.sight → AreEnded tables.now c until frames kept.now →
         HasCounted n totals.old →
         HasCounted (both_counted n (counted_at tables.now c until frames outlet.side l
         (port_of tables.now outlet.system.0))) totals.new }
@@ -53,7 +53,7 @@ fn count_to(
     ensures unseen { totals.new.unseen ≡ totals.old.unseen }
     ensures exercised { totals.new.is_exercised ≡ totals.old.is_exercised }
     ensures counted { (c : Choices) (until : ℕ) (frames : List Seen) (n : Counted) (l : LinkRow) →
-        slice_get tables.now.links link ≡ Some l → taps_in taps.now ≡ c.taps →
+        slice_get tables.now.links link ≡ Some l → sight_in tables.now taps.now ≡ c.sight →
         AreEnded tables.now c until frames kept.now → HasCounted n totals.old →
         HasCounted (both_counted n (counted_to tables.now c until frames side l l.to))
         totals.new }
@@ -72,7 +72,7 @@ fn count_on(tables: &Tables, taps: &Taps, kept: &KeptByKey, side: Side, totals: 
     ensures unseen { totals.new.unseen ≡ totals.old.unseen }
     ensures exercised { totals.new.is_exercised ≡ totals.old.is_exercised }
     ensures counted { (c : Choices) (until : ℕ) (frames : List Seen) (n : Counted) →
-        taps_in taps.now ≡ c.taps → AreEnded tables.now c until frames kept.now →
+        sight_in tables.now taps.now ≡ c.sight → AreEnded tables.now c until frames kept.now →
         HasCounted n totals.old →
         HasCounted (both_counted n (counted_among tables.now c until frames side
         tables.now.links)) totals.new }
@@ -89,7 +89,7 @@ pub(crate) fn count_streams(tables: &Tables, taps: &Taps, kept: &KeptByKey, tota
     ensures unseen { totals.new.unseen ≡ totals.old.unseen }
     ensures exercised { totals.new.is_exercised ≡ totals.old.is_exercised }
     ensures counted { (c : Choices) (until : ℕ) (frames : List Seen) →
-        taps_in taps.now ≡ c.taps → AreEnded tables.now c until frames kept.now →
+        sight_in tables.now taps.now ≡ c.sight → AreEnded tables.now c until frames kept.now →
         HasCounted none_counted totals.old →
         HasCounted (counted_of tables.now c until frames) totals.new }
 {

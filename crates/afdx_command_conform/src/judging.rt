@@ -7,9 +7,10 @@ ghost use Rattle.afdx_command_conform.specs.Choices.{Choices as Chosen, latest_o
 ghost use Rattle.afdx_command_conform.specs.Choices as asked;
 ghost use Rattle.afdx_command_conform.specs.ChoicesOf.{choices_of};
 ghost use Rattle.afdx_command_conform.specs.Judging.{IsSameButFindings, IsSameButTaken};
-ghost use Rattle.afdx_command_conform.specs.Tapped.{place_named, taps_in};
+ghost use Rattle.afdx_command_conform.specs.Sight.{sight_in};
+ghost use Rattle.afdx_command_conform.specs.Tapped.{place_named};
 ghost use Rattle.afdx_command_conform.specs.Telling as spec;
-ghost use Rattle.afdx_command_conform.specs.Told.{ClosesAt, Finishes, Follows, GoesOn, HasTold};
+ghost use Rattle.afdx_command_conform.specs.Told.{choices_in, ClosesAt, Finishes, Follows, GoesOn, HasTold};
 ghost use Rattle.afdx_command_conform.specs.Told.{IsEndFor, IsJudgedSoFar, IsJudgedToEnd, Reaches};
 ghost use Rattle.afdx_command_conform.specs.Told.{TakesNext, told_by};
 ghost use Rattle.afdx_command_conform.specs.Counting.{totals_and};
@@ -69,8 +70,10 @@ impl<'a> JudgingRun<'a> {
         choices: &'a Choices,
         taps: &'a Taps,
     ) -> Result<JudgingRun<'a>, AllocError>
-        ensures { IfOk result (λ judging. IsJudgedSoFar
-            (tables.entry.now, choices_of (taps_in taps.entry.now) choices.entry.now)
+        ensures { IfOk result (λ judging. IsJudgedSoFar (
+          tables.entry.now,
+          choices_of (sight_in tables.entry.now taps.entry.now) choices.entry.now,
+        )
             judging [] []) }
     {
         let streams = Streams::new(alloc, tables, choices.leeway, taps)?;
@@ -202,7 +205,7 @@ impl<'a> JudgingRun<'a> {
             vl ≡ link_named_by x.arrival.bytes →
             named ≡ place_named self.now.streams.tables.now x.arrival.bytes →
             result ≡ asked.is_passed self.now.streams.tables.now
-            (choices_of (taps_in self.now.streams.taps.now) self.now.choices.now) x }
+            (choices_in self.now) x }
     {
         let (side, port) = (seen.heading.side, seen.heading.port);
         is_left_out(self.choices, vl)
@@ -216,7 +219,7 @@ impl<'a> JudgingRun<'a> {
         ensures others { IsSameButTaken self.old self.new }
         ensures counted { (frames : List Frame) →
             let t = self.old.streams.tables.now in
-            let c = choices_of (taps_in self.old.streams.taps.now) self.old.choices.now in
+            let c = choices_in self.old in
             let x = frame_of (item_of n seen.now message.now) in
             self.old.left_out ≡ min (left_out_of t c frames) spec.most_counted →
             OnOk result

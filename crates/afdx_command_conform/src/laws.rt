@@ -1,6 +1,7 @@
 //! Laws over the lines of a run.
 
 ghost use Rattle.afdx_command_conform.specs.EarlyLaw.{LinesBeginEarly};
+ghost use Rattle.afdx_command_conform.specs.Sight.{TablesHaveBags};
 ghost use Rattle.afdx_command_conform.specs.QuietRuns.{LastLineIsQuiet, NoneLeftOutCounts};
 ghost use Rattle.afdx_command_conform.specs.QuietRuns.{NoneUnseenIsJudged, NothingFoundIsQuiet};
 ghost use Rattle.afdx_command_conform.specs.RunExample.{PremisesAreMet};
@@ -69,6 +70,12 @@ pub fn nothing_found_is_quiet()
 pub fn nothing_is_passed_over()
     ensures streams { NoneUnseenIsJudged }
     ensures frames { NoneLeftOutCounts }
+{}
+
+/// By tables each link's rule has one of the BAGs that there are, which laws of what passed ask of
+/// what a run sees of a switch.
+pub fn tables_have_bags()
+    ensures { TablesHaveBags }
 {}
 
 /// There is a run that meets all premises: a frame came and left in time, and there is no line; and

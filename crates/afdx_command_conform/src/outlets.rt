@@ -4,25 +4,28 @@ ghost use Rattle.std.specs.Prelude.{◌≡◌, ◌<◌, ◌*◌, [], IfNone, IfS
 ghost use Rattle.afdx_law_bounds.specs.Tables.{port_of, rule_of as rule_in};
 ghost use Rattle.afdx_config.specs.Lawful.{IsLawfulSwitch};
 ghost use Rattle.afdx_config.specs.Rows.{LinkRow, SystemRow, is_to};
-ghost use Rattle.afdx_conform.specs.LeewayOf.{leeway_of};
 ghost use Rattle.afdx_police.specs.RuleOf.{rule_of};
 ghost use Rattle.afdx_conform.specs.Histories.{nothing_judged};
 ghost use Rattle.afdx_conform.specs.Standing.{StandsFor, due_of};
 ghost use Rattle.afdx_command_conform.specs.Choices.{Choices};
 ghost use Rattle.afdx_command_conform.specs.Frames.{link_to, terms_at};
 ghost use Rattle.afdx_command_conform.specs.Keys.{key_of};
+ghost use Rattle.afdx_command_conform.specs.Ruled.{IsRuled};
 
 use crate::key::Key;
 use afdx_config::{SystemId, Tables};
 use afdx_conform::{Leeway, Stream};
 use afdx_frame::Side;
+use afdx_input_sources::Taps;
 use afdx_police::LinkRule;
 use std::alloc::Global;
 
-/// By what a stream is judged: the tables, and how much stamps and clocks may be off.
+/// By what a stream is judged: the tables, which ports were recorded, and how much stamps and clocks
+/// may be off.
 #[derive(Clone, Copy)]
 pub(crate) struct StreamRules<'a> {
     pub(crate) tables: &'a Tables,
+    pub(crate) taps: &'a Taps,
     pub(crate) leeway: Leeway,
 }
 
@@ -111,7 +114,7 @@ pub(crate) fn new_stream(alloc: Global, rules: &StreamRules<'_>, outlet: Outlet)
     ensures stands { let t = rules.now.tables.now in
         (c : Choices) (until time port : ℕ) (l : LinkRow) →
         slice_get t.links outlet.link ≡ Some l → port_of t outlet.system.0 ≡ port →
-        leeway_of rules.now.leeway ≡ c.by →
+        IsRuled rules.now c →
         StandsFor (terms_at t c until l port) [] [] nothing_judged time result }
     ensures due { due_of result ≡ None }
 {

@@ -2,6 +2,7 @@
 
 ghost use Rattle.std.specs.Prelude.{◌≡◌, [], IfSome, OnOk, false, true};
 ghost use Rattle.afdx_command_conform.specs.ChoicesOf.{choices_of};
+ghost use Rattle.afdx_command_conform.specs.Sight.{of_tables};
 ghost use Rattle.afdx_command_conform.specs.Ran as spec;
 ghost use Rattle.afdx_command_conform.specs.Ran.{ConformAnswers, RunTells};
 ghost use Rattle.afdx_input_lines.specs.Calls.{is_failed_read, is_failed_write};
@@ -133,7 +134,8 @@ pub fn run_conform<P: Tapping + Drop, A: RunInput<P, Seen>, O: Sink>(
     // Where the bytes are known: what is answered and written for the frames that it takes.
     ensures answer { IfSome (A.known inputs.old) (λ bytes. ConformAnswers
         (A.Takes TakesFrames options (ports_of_one tables.now) bytes inputs.new)
-        (tables.now, choices_of (P.tapped options) choices.now) choices.now.is_lossy
+        (tables.now, choices_of (of_tables tables.now (P.tapped options)) choices.now)
+        choices.now.is_lossy
         (O.written output.old) (O.written output.new) result) }
 {
     // (laws of the inputs: before they are asked for anything they haven't failed; where memory is

@@ -18,7 +18,7 @@ ghost use Rattle.afdx_command_conform.specs.Slots.{told_at};
 ghost use Rattle.afdx_command_conform.specs.Awaited.{IsBefore, awaited};
 ghost use Rattle.afdx_command_conform.specs.Counting.{AreEnded, HasCounted, counted_of, none_counted};
 ghost use Rattle.afdx_command_conform.specs.Tapped as spec;
-ghost use Rattle.afdx_command_conform.specs.Tapped.{taps_in};
+ghost use Rattle.afdx_command_conform.specs.Sight.{sight_in};
 ghost use Rattle.afdx_command_conform.specs.Waiting.{left_in};
 
 use crate::counting::count_streams;
@@ -52,7 +52,7 @@ pub(crate) struct Streams<'a> {
 }
 
 impl<'a> Streams<'a> {
-    ghost use Rattle.afdx_command_conform.specs.Standing.{IsBehindAll, IsSameButKept, StreamsStand};
+    ghost use Rattle.afdx_command_conform.specs.Standing.{IsBehindAll, IsSameButKept, StreamsStand, seen_by};
     ghost use Rattle.afdx_command_conform.specs.Taking.{StandsForMore};
 
     /// Those of the tables, of which nothing came.
@@ -63,7 +63,7 @@ impl<'a> Streams<'a> {
         taps: &'a Taps,
     ) -> Result<Streams<'a>, AllocError>
         ensures stands { (c : Choices) (until : ℕ) → leeway_of leeway ≡ c.by →
-            taps_in taps.entry.now ≡ c.taps →
+            sight_in tables.now taps.entry.now ≡ c.sight →
             IfOk result (λ s. StreamsStand tables.now c until [] [] 0 s) }
         ensures running { IfOk result (λ s. s.ended ≡ None) }
     {
@@ -118,7 +118,11 @@ impl<'a> Streams<'a> {
             return Ok(());
         }
         let bytes = CheckedBytes::of(&mut self.spare, frame)?;
-        let rules = StreamRules { tables, leeway };
+        let rules = StreamRules {
+            tables,
+            taps,
+            leeway,
+        };
         let rule = rule_at(tables, link);
         for rank in 0..tables.link(link).to.len() {
             let system = receiver(tables, link, rank);
@@ -147,7 +151,7 @@ impl<'a> Streams<'a> {
         ensures { (x : Seen) → x.role ≡ role → x.arrival.side ≡ side → x.arrival.port ≡ port →
             bytes_of frame.entry ≡ x.arrival.bytes →
             named ≡ spec.place_named self.now.tables.now x.arrival.bytes →
-            result ≡ spec.is_unheard self.now.tables.now (taps_in self.now.taps.now) x }
+            result ≡ spec.is_unheard self.now.tables.now (seen_by self.now) x }
     {
         match role {
             Role::Came => false,
@@ -194,7 +198,11 @@ impl<'a> Streams<'a> {
                 time,
                 bytes,
             };
-            let rules = StreamRules { tables, leeway };
+            let rules = StreamRules {
+                tables,
+                taps,
+                leeway,
+            };
             let outlet = Outlet { side, link, system };
             return leave_to(alloc, &rules, &mut self.kept, outlet, left);
         }
@@ -255,7 +263,7 @@ impl<'a> Streams<'a> {
 
     /// How many streams aren't judged.
     pub(crate) fn unseen(&self) -> u64
-        ensures { result ≡ spec.unseen_of self.now.tables.now (taps_in self.now.taps.now) }
+        ensures { result ≡ spec.unseen_of self.now.tables.now (seen_by self.now) }
     {
         unseen_of(self.tables, self.taps)
     }
@@ -267,7 +275,7 @@ impl<'a> Streams<'a> {
         ensures unseen { totals.new.unseen ≡ totals.old.unseen }
         ensures exercised { totals.new.is_exercised ≡ totals.old.is_exercised }
         ensures counted { (c : Choices) (until : ℕ) (frames : List Seen) →
-            taps_in self.now.taps.now ≡ c.taps →
+            seen_by self.now ≡ c.sight →
             AreEnded self.now.tables.now c until frames self.now.kept →
             HasCounted none_counted totals.old →
             HasCounted (counted_of self.now.tables.now c until frames) totals.new }

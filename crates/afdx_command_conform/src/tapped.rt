@@ -4,11 +4,10 @@ ghost use Rattle.std.specs.Prelude.{◌≡◌, ◌<◌, ◌≤◌, IfSome, Some,
 ghost use Rattle.std.specs.Prelude.{if◌then◌else◌};
 ghost use Rattle.afdx_config.specs.Rows.{LinkRow, is_to};
 ghost use Rattle.afdx_law_bounds.specs.Tables.{port_of};
-ghost use Rattle.afdx_input_lines.specs.declared.role.Role.TheVariants as role;
 ghost use Rattle.afdx_police.specs.Arrival.{Arrival};
 ghost use Rattle.afdx_command_conform.specs.Frames.{is_stranger, link_to};
 ghost use Rattle.afdx_command_conform.specs.Tapped as spec;
-ghost use Rattle.afdx_command_conform.specs.Tapped.{taps_in};
+ghost use Rattle.afdx_command_conform.specs.Sight.{sight_in};
 
 use crate::outlets::{Outlet, outlet_at, receiver};
 use afdx_config::{SystemId, Tables};
@@ -19,9 +18,9 @@ use afdx_input_sources::Taps;
 /// Whether the port at which a link comes in is recorded on a side.
 pub(crate) fn is_heard(tables: &Tables, taps: &Taps, side: Side, link: usize) -> bool
     requires link { link < length tables.now.links }
-    ensures at { result ≡ spec.is_heard_at tables.now (taps_in taps.now) side (Some link) }
+    ensures at { result ≡ spec.is_heard_at tables.now (sight_in tables.now taps.now) side (Some link) }
     ensures is { (l : LinkRow) → slice_get tables.now.links link ≡ Some l →
-        result ≡ spec.is_heard tables.now (taps_in taps.now) side l }
+        result ≡ spec.is_heard tables.now (sight_in tables.now taps.now) side l }
 {
     let sender = tables.link(link).from;
     taps.is_tapped(Role::Came, side, tables.system(sender).port)
@@ -30,7 +29,8 @@ pub(crate) fn is_heard(tables: &Tables, taps: &Taps, side: Side, link: usize) ->
 /// Whether the port of a system or neighbour is recorded on a side: what leaves there.
 pub(crate) fn is_seen(tables: &Tables, taps: &Taps, side: Side, system: SystemId) -> bool
     requires system { system.0 < length tables.now.systems }
-    ensures { result ≡ taps_in taps.now role.Left side (port_of tables.now system.0) }
+    ensures { result ≡ (sight_in tables.now taps.now).is_seen side
+        (port_of tables.now system.0) }
 {
     taps.is_tapped(Role::Left, side, tables.system(system).port)
 }
@@ -52,7 +52,7 @@ pub(crate) fn heard_outlet(
         × (is_to to.1.0 l ≡ true)) }
     ensures strange { (x : Arrival) → x.side ≡ side → x.port ≡ port →
         named ≡ spec.place_named tables.now x.bytes →
-        is_none result ≡ is_stranger tables.now (taps_in taps.now) x }
+        is_none result ≡ is_stranger tables.now (sight_in tables.now taps.now) x }
 {
     match outlet_at(tables, named, port) {
         Some((link, system)) => {
@@ -72,7 +72,7 @@ pub(crate) fn is_judged(tables: &Tables, taps: &Taps, outlet: Outlet) -> bool
     requires link { outlet.link < length tables.now.links }
     requires system { outlet.system.0 < length tables.now.systems }
     ensures { (l : LinkRow) → slice_get tables.now.links outlet.link ≡ Some l →
-        result ≡ spec.is_judged tables.now (taps_in taps.now) outlet.side l
+        result ≡ spec.is_judged tables.now (sight_in tables.now taps.now) outlet.side l
         (port_of tables.now outlet.system.0) }
 {
     is_heard(tables, taps, outlet.side, outlet.link)
@@ -84,7 +84,7 @@ fn unseen_at(tables: &Tables, taps: &Taps, outlet: Outlet) -> u64
     requires link { outlet.link < length tables.now.links }
     requires system { outlet.system.0 < length tables.now.systems }
     ensures count { (l : LinkRow) → slice_get tables.now.links outlet.link ≡ Some l →
-        result ≡ (if spec.is_judged tables.now (taps_in taps.now) outlet.side l
+        result ≡ (if spec.is_judged tables.now (sight_in tables.now taps.now) outlet.side l
         (port_of tables.now outlet.system.0) then 0 else 1) }
     ensures few { result ≤ 1 }
 {
@@ -99,7 +99,7 @@ fn unseen_at(tables: &Tables, taps: &Taps, outlet: Outlet) -> u64
 fn unseen_to(tables: &Tables, taps: &Taps, side: Side, link: usize) -> u64
     requires link { link < length tables.now.links }
     ensures count { (l : LinkRow) → slice_get tables.now.links link ≡ Some l →
-        result ≡ spec.unseen_to tables.now (taps_in taps.now) side l l.to }
+        result ≡ spec.unseen_to tables.now (sight_in tables.now taps.now) side l l.to }
     ensures few { result ≤ 24 }
 {
     let mut count: u64 = 0;
@@ -113,7 +113,7 @@ fn unseen_to(tables: &Tables, taps: &Taps, side: Side, link: usize) -> u64
 
 /// How many aren't of any link.
 fn unseen_on(tables: &Tables, taps: &Taps, side: Side) -> u64
-    ensures count { result ≡ spec.unseen_among tables.now (taps_in taps.now) side tables.now.links }
+    ensures count { result ≡ spec.unseen_among tables.now (sight_in tables.now taps.now) side tables.now.links }
     ensures few { result ≤ 98_304 }
 {
     let mut count: u64 = 0;
@@ -125,7 +125,7 @@ fn unseen_on(tables: &Tables, taps: &Taps, side: Side) -> u64
 
 /// How many streams aren't judged, on both sides.
 pub fn unseen_of(tables: &Tables, taps: &Taps) -> u64
-    ensures { result ≡ spec.unseen_of tables.now (taps_in taps.now) }
+    ensures { result ≡ spec.unseen_of tables.now (sight_in tables.now taps.now) }
 {
     unseen_on(tables, taps, Side::A) + unseen_on(tables, taps, Side::B)
 }

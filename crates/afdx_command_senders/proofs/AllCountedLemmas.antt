@@ -89,7 +89,7 @@ module _ (t : Rows) (a : Asked) (frames : List Frame) (start : a.run.by.start �
       → counts a x ≡ (is_of_came x.role && is_until a.run.until x)
   unfolding is_missed counts
   not-missed x h =
-      by (is_of_came x.role) (is_in_time a.run x) (is_left_out a.run x) (is_unheard t a.run.taps x) h
+      by (is_of_came x.role) (is_in_time a.run x) (is_left_out a.run x) (is_unheard t a.run.sight x) h
       ∙ ap (λ (b : Bool). is_of_came x.role && b) (in-time a.run x start)
     where
       by : (c u o n : Bool) → (u && (o || n)) ≡ false → (c && u && not o) ≡ (c && u)

@@ -95,7 +95,7 @@ its-port port goes = by (system_at_port heard_tables.systems port) refl goes
     by None is h = absurd (true≢false (sym h))
     by (Some system) is h = let s = system-at heard_tables port system is in at system s.0 s.1 s.2 h
 
-is-it : (side : Side) (place port : ℕ) (l : LinkRow) → judged_to heard_tables all_taps side place port ≡ Some l
+is-it : (side : Side) (place port : ℕ) (l : LinkRow) → judged_to heard_tables asked.run.sight side place port ≡ Some l
     → IsIt place port l
 is-it side place port l is =
     let here = link-to heard_tables place port l (judged-link heard_tables asked.run side place port l is) in
@@ -138,7 +138,7 @@ unfolding counts is_unheard goes_there is_damaged place_named link_of link_to go
 all-counted = refl
 
 abbrev is_strange : Side → ℕ → Frame → Bool
-is_strange side port x = left_at side port x && is_stranger heard_tables asked.run.taps x.arrival
+is_strange side port x = left_at side port x && is_stranger heard_tables asked.run.sight x.arrival
 
 each-none : (side : Side) (port : ℕ) → AllByRecursion (λ x. is_strange side port x ≡ false) frames
 unfolding left_at is_stranger goes_there place_named link_of link_to goes_to system_at_port
@@ -175,7 +175,7 @@ no-dues k = by k.link
         is.link
         ∙ none-here k.side
 
-    judged : (place : ℕ) (o : Option LinkRow) → judged_to heard_tables all_taps k.side place k.port ≡ o
+    judged : (place : ℕ) (o : Option LinkRow) → judged_to heard_tables asked.run.sight k.side place k.port ≡ o
         → option_map_or (stream_dues heard_tables asked.run 2005760 frames (key_with k.side k.port (Some place))) o []
         ≡ []
     judged place None is = refl
@@ -183,7 +183,7 @@ no-dues k = by k.link
 
     by : (o : Option ℕ) → dues_by heard_tables asked.run 2005760 frames (key_with k.side k.port o) o ≡ []
     by None = ap (map (stranger_due heard_tables (key_with k.side k.port None))) (stranger-none k.side k.port)
-    by (Some place) = judged place (judged_to heard_tables all_taps k.side place k.port) refl
+    by (Some place) = judged place (judged_to heard_tables asked.run.sight k.side place k.port) refl
 
 no-due : AreLines heard_tables asked.run 2005760 frames []
 unfolding AreInOrder

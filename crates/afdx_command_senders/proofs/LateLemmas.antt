@@ -143,7 +143,7 @@ module _ (t : Rows) (c : Choices) (until : ℕ) (frames : List Frame) where
         → IsRanged k
     ranged-own k d more port e = record { port = port; link = by k.link e }
       where
-        by-stream : (place : ℕ) (o : Option LinkRow) → judged_to t c.taps k.side place k.port ≡ o
+        by-stream : (place : ℕ) (o : Option LinkRow) → judged_to t c.sight k.side place k.port ≡ o
             → option_map_or (stream_dues t c until frames k) o [] ≡ d ∷ more → place + 1 < 0x100000000
         by-stream place None is h = absurd (cc)
         by-stream place (Some l) is h =
@@ -153,7 +153,7 @@ module _ (t : Rows) (c : Choices) (until : ℕ) (frames : List Frame) where
 
         by : (o : Option ℕ) → dues_by t c until frames k o ≡ d ∷ more → link_rank o < 0x100000000
         by None h = omega arith
-        by (Some place) h = by-stream place (judged_to t c.taps k.side place k.port) refl h
+        by (Some place) h = by-stream place (judged_to t c.sight k.side place k.port) refl h
 
     -- where some pass a test there are some
     some-passed : (p : Due → Bool) (l : List Due) (d : Due) (more : List Due) → filter p l ≡ d ∷ more

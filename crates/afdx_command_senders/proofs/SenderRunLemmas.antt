@@ -340,7 +340,7 @@ module _ (k : RunRules) (old : SendersRun) (start mid : Option (List ℕ)) (fram
         told = told.more ++ h.told;
         works = record {
           tables = ap (λ (t : Bor Rows). t.now) others.tables ∙ h.works.tables;
-          asked = ap (λ (s : SenderChoices). asked_of k.1.run.taps s) others.asked ∙ h.works.asked;
+          asked = ap (λ (s : SenderChoices). asked_of k.0.tables k.1.taps s) others.asked ∙ h.works.asked;
           left_out = others.left_out ∙ h.works.left_out;
           latest = others.latest ∙ h.works.latest;
           few = h.works.few;

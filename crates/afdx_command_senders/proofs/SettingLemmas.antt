@@ -55,7 +55,7 @@ is-setting o a = record {
 
 -- ---- one after the other
 
-pub none-below : (o : Outlook) (a : Asked) (recorded : Recorded) → AreRecorded a.run.taps recorded
+pub none-below : (o : Outlook) (a : Asked) (recorded : Recorded) → AreRecorded a.taps recorded
     → IsSettingBelow 0 o a (setup_with o.tables o.among recorded (setting_of o a).asked nobody)
 none-below o a recorded is = record {
   tables = refl;

@@ -13,6 +13,7 @@ use Rattle.afdx_command_conform.specs.Lines.{AreLines}
 use Rattle.afdx_command_conform.specs.Telling.{findings_in, most_counted}
 use Rattle.afdx_command_conform.specs.Written.{WritesLines}
 use Rattle.afdx_command_conform.specs.Lines.{Due}
+use Rattle.afdx_command_conform.specs.Sight.{of_tables}
 use Rattle.afdx_command_senders.proofs.MergeLemmas.{found-both}
 use Rattle.afdx_command_senders.proofs.TogetherLemmas.{both_show_once}
 use Rattle.afdx_command_senders.specs.BothLines.{AreBothLines, both_totals}
@@ -58,20 +59,21 @@ module _ (o : Outlook) (k : RunRules) (frames : List Frame) (lines : List Confor
   })
 
 pub shows-once : (o : Outlook) (k : RunRules) (frames : List Frame) (lines : List ConformLine) (last : Conclusion)
-    → IsSetting o k.1 k.0 → AreBothLines k frames lines last → ShowsOnce o k frames last
-shows-once o k frames lines last setting are test clean =
-    both_show_once o k.1 k.0 frames are.told are.dues test
+    → IsSetting o k.1 k.0 → k.1.run.sight ≡ of_tables o.tables k.1.taps → AreBothLines k frames lines last
+    → ShowsOnce o k frames last
+shows-once o k frames lines last setting sees are test clean =
+    both_show_once o k.1 k.0 frames are.told are.dues test sees
     (senders o k frames lines last setting are clean) (switch o k frames lines last setting are clean)
 
 -- all lines, with what they show
 pub with-shown : (o : Outlook) (k : RunRules) (frames : List Frame) (old new : Option (List ℕ)) (last : Conclusion)
-    → IsSetting o k.1 k.0 → WritesLines old new (AreBothLines k frames) last
-    → WritesLines old new (AreBothShown o k frames) last
-with-shown o k frames old new last setting w = record {
+    → IsSetting o k.1 k.0 → k.1.run.sight ≡ of_tables o.tables k.1.taps
+    → WritesLines old new (AreBothLines k frames) last → WritesLines old new (AreBothShown o k frames) last
+with-shown o k frames old new last setting sees w = record {
   lines = w.lines;
   are_so = record {
     are = w.are_so;
-    once = shows-once o k frames w.lines last setting w.are_so;
+    once = shows-once o k frames w.lines last setting sees w.are_so;
   };
   written = w.written;
 }

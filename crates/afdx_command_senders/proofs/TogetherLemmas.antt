@@ -9,7 +9,7 @@ use Rattle.afdx_config.specs.Rows.{LinkRow, Rows, SystemRow, is_to}
 use Rattle.afdx_conform.specs.Headline.{AreTheirFrames}
 use Rattle.afdx_conform.specs.Leeway.{Leeway}
 use Rattle.afdx_conform.specs.LimitRanges.{most_bytes}
-use Rattle.afdx_conform.specs.Streams.{Gone}
+use Rattle.afdx_conform.specs.Streams.{Gone, Terms}
 use Rattle.afdx_frame.proofs.ListLemmas.{AllByRecursion-slice_get}
 use Rattle.afdx_frame.specs.declared.link.Side.{Side}
 use Rattle.afdx_input_runs.specs.Joining.{Frame}
@@ -37,6 +37,8 @@ use Rattle.afdx_command_conform.proofs.QuietRunLemmas.{none_unseen, nothing_foun
 use Rattle.afdx_command_conform.proofs.TellingLemmas.{findings-append}
 use Rattle.afdx_command_conform.specs.Choices.{Choices, left_out_of, until_or}
 use Rattle.afdx_command_conform.specs.Frames.{arrivals_of, frames_of}
+use Rattle.afdx_command_conform.specs.Sight.{Sight, of_tables}
+use Rattle.afdx_command_conform.specs.Tapped.{Taps}
 use Rattle.afdx_command_conform.specs.Telling.{findings_in}
 use Rattle.afdx_command_conform.specs.Lines.{Due}
 use Rattle.afdx_command_senders.proofs.AllCountedLemmas.{came-up, none_out_judged, none_out_sent}
@@ -75,8 +77,8 @@ none-told (x ∷ past) says none =
 
 -- ---- both together
 
-module _ (o : Outlook) (a : Asked) (c : Choices) (z : Setup) (sent frames : List Frame) (told : List Line)
-    (dues : List Due) (test : IsExactTest o a) (leeway : c.by ≡ a.run.by)
+module _ (o : Outlook) (a : Asked) (taps : Taps) (c : Choices) (z : Setup) (sent frames : List Frame)
+    (told : List Line) (dues : List Due) (test : IsExactTest o a) (sees : c.sight ≡ of_tables o.tables taps) (leeway : c.by ≡ a.run.by)
     (same : came_in a sent ≡ came_until c.until frames) (senders : SendersFindNothing o a z sent told)
     (switch : SwitchFindsNothing o.tables c frames dues) where
   abbrev whole : Setup
@@ -90,6 +92,16 @@ module _ (o : Outlook) (a : Asked) (c : Choices) (z : Setup) (sent frames : List
 
   abbrev left : List Arrival
   left = left_until c.until frames
+
+  -- by what a stream is judged, by what is seen of the switch
+  abbrev terms_of : Sight → LinkRow → (port : ℕ) → Terms
+  terms_of i l port = record {
+    rule = i.rule l;
+    latency_ns = i.latency_ns l port;
+    byte_ns = i.byte_ns l port;
+    by = c.by;
+    until = end;
+  }
 
   lawful : IsLawfulSwitch o.tables
   lawful = among_others o.tables test.lawful
@@ -126,10 +138,14 @@ module _ (o : Outlook) (a : Asked) (c : Choices) (z : Setup) (sent frames : List
         (left_of l.vl side s.port left)
     shown side =
         let quiet = nothing_found (o.tables, c) frames dues lawful switch.are_all switch.none switch.closed side place
-        s.port l (none_unseen o.tables c.taps side place system l s lawful switch.unseen at there goes) in
-        let here : IsShown (stream_at o.tables c.by end l s.port) (arrivals_of o.tables c l.vl side frames)
+        s.port l (none_unseen o.tables c.sight side place system l s lawful switch.unseen at there goes) in
+        let seen : IsShown (terms_of c.sight l s.port) (arrivals_of o.tables c l.vl side frames)
         (frames_of o.tables c l.vl side s.port frames) =
         record { nothing = quiet.nothing; closed = quiet.closed } in
+        let here : IsShown (stream_at o.tables c.by end l s.port) (arrivals_of o.tables c l.vl side frames)
+        (frames_of o.tables c l.vl side s.port frames) =
+        subst (λ (i : Sight). IsShown (terms_of i l s.port) (arrivals_of o.tables c l.vl side frames)
+        (frames_of o.tables c l.vl side s.port frames)) sees seen in
         subst (λ (t : Rows). IsShown (stream_at t z.asked.by end l s.port) (own l.vl side (no_longer came))
         (left_of l.vl side s.port left)) (sym senders.setting.tables)
         (subst (λ (by : Leeway). IsShown (stream_at o.tables by end l s.port) (own l.vl side (no_longer came))
@@ -184,11 +200,11 @@ module _ (o : Outlook) (a : Asked) (c : Choices) (z : Setup) (sent frames : List
       }
 
 pub two_runs_show_once : TwoRunsShowOnce
-two_runs_show_once o a c z sent frames told dues test leeway same senders switch =
-    came-once o a c z sent frames told dues test leeway same senders switch
+two_runs_show_once o a taps c z sent frames told dues test sees leeway same senders switch =
+    came-once o a taps c z sent frames told dues test sees leeway same senders switch
 
 pub both_show_once : BothShowOnce
-both_show_once o a z frames told dues test senders switch =
-    came-once o a a.run z frames frames told dues test refl
+both_show_once o a z frames told dues test sees senders switch =
+    came-once o a a.taps a.run z frames frames told dues test sees refl
     (none_out_sent o.tables a frames test.exact.start (let none = switch.left_out in omega (arith, none))) senders
     switch

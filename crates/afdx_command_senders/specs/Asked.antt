@@ -1,21 +1,29 @@
 -- What a run over what systems sent is asked, and which of the frames of both roles count. A list
 -- of frames has the newest first.
 use Rattle.std.specs.Prelude.{ℕ, Bool, not, ◌&&◌, List, filter, length, map, Option}
+use Rattle.afdx_config.specs.Rows.{Rows}
 use Rattle.afdx_input_runs.specs.Joining.{Frame}
 use Rattle.afdx_police.specs.Arrival.{Arrival}
 use Rattle.afdx_command_conform.specs.Choices.{Choices, is_in_time, is_left_out}
 use Rattle.afdx_command_conform.specs.ChoicesOf.{choices_of}
+use Rattle.afdx_command_conform.specs.Sight.{of_tables}
 use Rattle.afdx_command_conform.specs.Tapped.{Taps, is_of_came}
 use Rattle.afdx_command_senders.specs.declared.asked.SenderChoices.{SenderChoices}
 
--- what one over a switch is asked; and by how many ns copies may be sent apart, if that is given
+-- what one over a switch is asked; which ports were recorded; and by how many ns copies may be sent
+-- apart, if that is given
 pub record Asked : Type 0 where
   pub run : Choices
+  pub taps : Taps
   pub apart : Option ℕ
 
--- as the code holds it, where these ports were recorded
-abbrev pub asked_of : Taps → SenderChoices → Asked
-asked_of taps asked = record { run = choices_of taps asked.choices.now; apart = asked.apart }
+-- as the code holds it, where these ports of a switch of these tables were recorded
+abbrev pub asked_of : Rows → Taps → SenderChoices → Asked
+asked_of t taps asked = record {
+  run = choices_of (of_tables t taps) asked.choices.now;
+  taps = taps;
+  apart = asked.apart;
+}
 
 module _ (a : Asked) where
   -- a frame counts that came, from start to end, of a link that isn't left out

@@ -30,7 +30,7 @@ abbrev pub SendersAnswer : {B I : Type 0} → Option B →
     Outlook → Taps → SenderChoices → (old new : Option (List ℕ)) → Result RunCounts RunFault →
     Type 0
 SendersAnswer known Takes inputs o taps choices old new answer = IfSome known (λ bytes.
-    let a = asked_of taps choices in (z : Setup) × IsSetting o a z
+    let a = asked_of o.tables taps choices in (z : Setup) × IsSetting o a z
     × RunAnswers (Takes (ports_of_one o.tables) bytes inputs) (AreAllLines (z, a))
     (AreEarlyLines (z, a)) (AreFirstLines (z, a)) choices.choices.now.is_lossy old new answer)
 
@@ -40,7 +40,7 @@ abbrev pub BothAnswer : {B I : Type 0} → Option B →
     Outlook → Taps → SenderChoices → (old new : Option (List ℕ)) → Result RunCounts RunFault →
     Type 0
 BothAnswer known Takes inputs o taps choices old new answer = IfSome known (λ bytes.
-    let a = asked_of taps choices in (z : Setup) × IsSetting o a z
+    let a = asked_of o.tables taps choices in (z : Setup) × IsSetting o a z
     × RunAnswers (Takes (ports_of_one o.tables) bytes inputs) (AreBothShown o (z, a))
     (AreBothEarly (z, a)) (AreBothSome (z, a)) choices.choices.now.is_lossy old new answer)
 

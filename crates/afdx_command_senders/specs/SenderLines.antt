@@ -16,6 +16,7 @@ use Rattle.afdx_text.specs.declared.sender_lines.SenderTotals.{SenderTotals}
 use Rattle.afdx_command_conform.specs.Choices.{latest_of, until_or}
 use Rattle.afdx_command_conform.specs.Tapped.{unseen_of}
 use Rattle.afdx_input_sources.specs.Tapping.{no_taps}
+use Rattle.afdx_command_conform.specs.Sight.{of_tables}
 use Rattle.afdx_command_conform.specs.Telling.{findings_in, most_counted}
 use Rattle.afdx_command_senders.specs.Asked.{Asked, came_in, left_out_of}
 use Rattle.afdx_command_senders.specs.SenderTexts.{told_lines}
@@ -61,7 +62,7 @@ module _ (k : RunRules) (frames : List Frame) where
     waiting = 0;
     uncertain = 0;
     left_out = min (left_out_of k.1 frames) most_counted;
-    unseen = unseen_of k.0.tables no_taps;
+    unseen = unseen_of k.0.tables (of_tables k.0.tables no_taps);
     idle = 0;
     senders = Some sent_of;
   }

@@ -34,7 +34,7 @@ told_in lines = reverse (map line_of lines)
 -- it works by these rules; so many of the frames are left out, and that is the time of the newest
 pub record WorksBy (k : RunRules) (frames : List Frame) (run : SendersRun) : Type 0 where
   pub tables : run.tables.now ≡ k.0.tables
-  pub asked : asked_of k.1.run.taps run.asked ≡ k.1
+  pub asked : asked_of k.0.tables k.1.taps run.asked ≡ k.1
   pub left_out : run.left_out ≡ min (left_out_of k.1 frames) most_counted
   pub latest : run.latest ≡ latest_of frames
   pub few : length frames < 2 ^ 64

@@ -22,7 +22,7 @@ pub record IsSettingOf (judges : ℕ → LinkRow → Bool) (o : Outlook) (a : As
   where
     pub tables : z.tables ≡ o.tables
     pub among : z.among ≡ o.among
-    pub recorded : AreRecorded a.run.taps z.recorded
+    pub recorded : AreRecorded a.taps z.recorded
     pub ways : (place : ℕ) (l : LinkRow) → slice_get o.tables.links place ≡ Some l →
         z.asked.ways place ≡ ways_by o.among o.tables l
     pub given : z.asked.given ≡ a.apart
@@ -43,7 +43,7 @@ abbrev pub setting_of : Outlook → Asked → Setup
 setting_of o a = record {
   tables = o.tables;
   among = o.among;
-  recorded = a.run.taps Came;
+  recorded = a.taps Came;
   asked = record {
     ways = λ place. option_map_or (ways_by o.among o.tables) (slice_get o.tables.links place) [];
     given = a.apart;

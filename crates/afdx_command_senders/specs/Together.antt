@@ -23,7 +23,8 @@ use Rattle.afdx_command_conform.specs.Counting.{totals_of}
 use Rattle.afdx_command_conform.specs.Frames.{arrivals_of, frames_of}
 use Rattle.afdx_command_conform.specs.Lines.{AreLines}
 use Rattle.afdx_command_conform.specs.RunLaws.{AreByTime, NothingIsFound}
-use Rattle.afdx_command_conform.specs.Tapped.{is_of_came}
+use Rattle.afdx_command_conform.specs.Sight.{of_tables}
+use Rattle.afdx_command_conform.specs.Tapped.{Taps, is_of_came}
 use Rattle.afdx_command_conform.specs.Telling.{findings_in}
 use Rattle.afdx_command_conform.specs.Lines.{Due}
 use Rattle.afdx_command_senders.specs.Asked.{Asked, came_in}
@@ -147,6 +148,7 @@ BothShowOnce =
     (o : Outlook) (a : Asked) (z : Setup) (frames : List Frame) (told : List Line)
     (dues : List Due) →
     IsExactTest o a →
+    a.run.sight ≡ of_tables o.tables a.taps →
     SendersFindNothing o a z frames told →
     SwitchFindsNothing o.tables a.run frames dues →
     EachIsOnce o (whole_setup (z, a) frames) a.run.until frames
@@ -155,9 +157,10 @@ BothShowOnce =
 -- the same leeway
 abbrev pub TwoRunsShowOnce : Type 0
 TwoRunsShowOnce =
-    (o : Outlook) (a : Asked) (c : Choices) (z : Setup) (sent frames : List Frame)
+    (o : Outlook) (a : Asked) (taps : Taps) (c : Choices) (z : Setup) (sent frames : List Frame)
     (told : List Line) (dues : List Due) →
     IsExactTest o a →
+    c.sight ≡ of_tables o.tables taps →
     c.by ≡ a.run.by →
     came_in a sent ≡ came_until c.until frames →
     SendersFindNothing o a z sent told →

@@ -16,6 +16,7 @@ use Rattle.afdx_law_recorded.specs.Whole.{heard_tables}
 use Rattle.afdx_police.specs.Arrival.{arrival_with}
 use Rattle.afdx_receive.specs.Delivery.{delivered}
 use Rattle.afdx_senders.specs.Setups.{Setup, own_frames}
+use Rattle.afdx_command_conform.specs.Sight.{of_tables}
 use Rattle.afdx_command_senders.specs.Asked.{Asked}
 use Rattle.afdx_command_senders.specs.Outlook.{Outlook}
 use Rattle.afdx_command_senders.specs.SenderLines.{whole_setup}
@@ -33,9 +34,10 @@ asked = record {
     by = leeway_with 0 0 0 0 0 None;
     until = None;
     left_out = [];
-    taps = all_taps;
+    sight = of_tables heard_tables all_taps;
     exercised = false;
   };
+  taps = all_taps;
   apart = None;
 }
 

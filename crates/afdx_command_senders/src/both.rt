@@ -34,8 +34,8 @@ impl<'a> BothRun<'a> {
         asked: SenderChoices<'a>,
         taps: &'a Taps,
     ) -> Result<BothRun<'a>, AllocError>
-        ensures { let a = asked_of (taps_in taps.entry.now) asked.entry in IfOk result (λ run.
-            (z : Setup) × IsSetting (outlook_of outlook.entry) a z
+        ensures { let a = asked_of outlook.entry.tables.now (taps_in taps.entry.now) asked.entry in
+            IfOk result (λ run. (z : Setup) × IsSetting (outlook_of outlook.entry) a z
             × ((output : Option (List ℕ)) → BothTellItems (z, a) run output output [])) }
     {
         let switch = JudgingRun::new(alloc, outlook.tables, asked.choices, taps)?;

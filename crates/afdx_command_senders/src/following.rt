@@ -30,7 +30,7 @@ fn apart_of(
     requires { place < length outlook.now.tables.now.links }
     ensures { (n : ℕ) (taps : Tapped) (z : Setup) (l : LinkRow) →
         slice_get outlook.now.tables.now.links place ≡ Some l →
-        IsSettingBelow n (outlook_of outlook.now) (asked_of taps asked.now) z →
+        IsSettingBelow n (outlook_of outlook.now) (asked_of outlook.now.tables.now taps asked.now) z →
         IfOk result (IsApart (terms_at z.tables z.recorded z.asked place l)) }
 {
     if let Some(ns) = asked.apart {
@@ -54,7 +54,8 @@ pub(crate) fn senders_of<'a>(
 ) -> Result<Senders<'a>, AllocError>
     ensures { (taps : Tapped) → AreRecorded taps (recorded_in recorded) →
         IfOk result (λ senders. (z : Setup)
-        × IsSetting (outlook_of outlook.entry) (asked_of taps asked.entry.now) z
+        × IsSetting (outlook_of outlook.entry)
+        (asked_of outlook.entry.tables.now taps asked.entry.now) z
         × ((until : ℕ) (before : Option ℕ) → HaveTold (ending until z) before [] [] senders)) }
 {
     let tables = outlook.tables;

@@ -18,6 +18,7 @@ ghost use Rattle.afdx_senders.specs.Telling.{HaveBegun};
 ghost use Rattle.afdx_text.specs.Sinks.{SinkKept};
 ghost use Rattle.afdx_command_conform.specs.Choices.{latest_of};
 ghost use Rattle.afdx_command_conform.specs.Telling.{findings_in, lines_text, most_counted};
+ghost use Rattle.afdx_config.specs.Rows.{Rows};
 ghost use Rattle.afdx_command_senders.specs.Asked.{Asked, asked_of, came_in, left_out_of};
 ghost use Rattle.afdx_command_senders.specs.Outlook.{outlook_of};
 ghost use Rattle.afdx_command_senders.specs.SenderLines as lines;
@@ -78,8 +79,8 @@ impl<'a> SendersRun<'a> {
         asked: SenderChoices<'a>,
         taps: &Taps,
     ) -> Result<SendersRun<'a>, AllocError>
-        ensures { let a = asked_of (taps_in taps.now) asked.entry in IfOk result (λ run.
-            (z : Setup) × IsSetting (outlook_of outlook.entry) a z × IsNewRun (z, a) run) }
+        ensures { let a = asked_of outlook.entry.tables.now (taps_in taps.now) asked.entry in
+            IfOk result (λ run. (z : Setup) × IsSetting (outlook_of outlook.entry) a z × IsNewRun (z, a) run) }
     {
         let senders = senders_of(alloc, outlook, &asked, recorded_ports(taps))?;
         Ok(SendersRun {
@@ -178,13 +179,13 @@ impl SendersRun<'_> {
         requires time { seen.now.heading.time ≤ latest_listed }
         requires known { IsSealedAs seen.now.heading.seal message.now }
         ensures others { spec.IsSameButTaken self.old self.new }
-        ensures counted { (a : Asked) (frames : List Frame) →
-            asked_of a.run.taps self.old.asked ≡ a →
+        ensures counted { (t : Rows) (a : Asked) (frames : List Frame) →
+            asked_of t a.taps self.old.asked ≡ a →
             self.old.left_out ≡ min (left_out_of a frames) most_counted →
             let x = frame_of (item_of n seen.now message.now) in
             OnOk result (self.new.left_out ≡ min (left_out_of a (x ∷ frames)) most_counted) }
-        ensures came { (a : Asked) (z : Setup) (frames : List Frame) (told : List Line) →
-            asked_of a.run.taps self.old.asked ≡ a →
+        ensures came { (t : Rows) (a : Asked) (z : Setup) (frames : List Frame)
+            (told : List Line) → asked_of t a.taps self.old.asked ≡ a →
             HaveTold z (Some seen.now.heading.time) (came_in a frames) told self.old.senders →
             let x = frame_of (item_of n seen.now message.now) in
             OnOk result (HaveTold z (Some seen.now.heading.time) (came_in a (x ∷ frames)) told

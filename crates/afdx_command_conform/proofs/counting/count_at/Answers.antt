@@ -4,7 +4,8 @@ use Rattle.afdx_law_bounds.specs.Tables.{port_of}
 use Rattle.afdx_command_conform.specs.Counting.{HasCounted, both_counted, stream_counted}
 use Rattle.afdx_command_conform.specs.Frames.{link_to, terms_at}
 use Rattle.afdx_command_conform.specs.Keeping.{IsStreamOf, given_of}
-use Rattle.afdx_command_conform.specs.Tapped.{Taps, is_judged}
+use Rattle.afdx_command_conform.specs.Sight.{Sight}
+use Rattle.afdx_command_conform.specs.Tapped.{is_judged}
 use Rattle.afdx_command_conform.specs.declared.key.Key.{Key}
 use Rattle.afdx_command_conform.proofs.CountingLemmas.{given-counted, has-none, unjudged-counted}
 use Rattle.afdx_command_conform.proofs.KeyLemmas.{no-system}
@@ -12,7 +13,7 @@ use Rattle.afdx_command_conform.proofs.OutletLemmas.{goes-there}
 use Rattle.afdx_command_conform.proofs.counting.count_at.Goals as goal
 
 pub returns-then-is_judged-clause-counted : goal.returns-then-is_judged-clause-counted
-returns-then-is_judged-clause-counted c c' until frames n l at to taps ended has =
+returns-then-is_judged-clause-counted c c' until frames n l at to sight ended has =
     let t = c.args.tables.now in
     let side = c.args.outlet.side in
     let place = c.args.outlet.link in
@@ -22,8 +23,8 @@ returns-then-is_judged-clause-counted c c' until frames n l at to taps ended has
     let here = slice_get-get_or t.systems s no-system c.requires.system in
     let goes : link_to t place port ≡ Some l =
     goes-there t place l s (get_or t.systems s no-system) c.key_at.ensures.lawful at here to in
-    let judged : is_judged t c'.taps side l port ≡ true =
-    ap (λ (p : Taps). is_judged t p side l port) (sym taps) ∙ sym (c.is_judged.ensures l at) ∙ c.if-is_judged.true in
+    let judged : is_judged t c'.sight side l port ≡ true =
+    ap (λ (p : Sight). is_judged t p side l port) (sym sight) ∙ sym (c.is_judged.ensures l at) ∙ c.if-is_judged.true in
     let key : Key = c.key_at.result in
     let e = ended key l (subst (λ q. IsStreamOf t q l) (sym is) goes) in
     subst (λ m. HasCounted m c.count.new.totals)
@@ -34,11 +35,11 @@ returns-then-is_judged-clause-counted c c' until frames n l at to taps ended has
     (given_of t c' frames key).left e.1 e.0 e.2 has)
 
 pub returns-else-is_judged-clause-counted : goal.returns-else-is_judged-clause-counted
-returns-else-is_judged-clause-counted c c' until frames n l at to taps ended has =
+returns-else-is_judged-clause-counted c c' until frames n l at to sight ended has =
     let t = c.args.tables.now in
     let side = c.args.outlet.side in
     let port : ℕ = port_of t c.args.outlet.system.0 in
-    let judged : is_judged t c'.taps side l port ≡ false =
-    ap (λ (p : Taps). is_judged t p side l port) (sym taps) ∙ sym (c.is_judged.ensures l at) ∙ c.if-is_judged.false in
+    let judged : is_judged t c'.sight side l port ≡ false =
+    ap (λ (p : Sight). is_judged t p side l port) (sym sight) ∙ sym (c.is_judged.ensures l at) ∙ c.if-is_judged.false in
     subst (λ m. HasCounted (both_counted n m) c.args.totals.now)
     (sym (unjudged-counted t c' until frames side port l judged)) (has-none n c.args.totals.now has)

@@ -14,7 +14,7 @@ loop-rank-init c = record {
   left_out = refl;
   unseen = refl;
   exercised = refl;
-  counted = λ c' until frames n row at taps ended has.
+  counted = λ c' until frames n row at sight ended has.
       subst (λ m. HasCounted (both_counted n m) c.args.totals.now)
       (sym (to-none c.args.tables.now c' until frames c.args.side row))
       (has-none n c.args.totals.now has);
@@ -26,7 +26,7 @@ loop-rank-preserved c = record {
   left_out = c.count_at.ensures.left_out ∙ c.loop-rank.invariant.left_out;
   unseen = c.count_at.ensures.unseen ∙ c.loop-rank.invariant.unseen;
   exercised = c.count_at.ensures.exercised ∙ c.loop-rank.invariant.exercised;
-  counted = λ c' until frames n row at taps ended has.
+  counted = λ c' until frames n row at sight ended has.
       let t = c.args.tables.now in
       let side = c.args.side in
       let s : ℕ = c.receiver-system.result.0 in
@@ -43,12 +43,12 @@ loop-rank-preserved c = record {
       subst (λ m. HasCounted m c.count_at.new.totals)
       (both-assoc n before (counted_at t c' until frames side row (port_of t s))
       ∙ ap (λ m. both_counted n m) (sym (to-next t c' until frames side row rank s is lt)))
-      (c.count_at.ensures.counted c' until frames (both_counted n before) row at (any-in row.to rank s is lt) taps ended
-      (c.loop-rank.invariant.counted c' until frames n row at taps ended has));
+      (c.count_at.ensures.counted c' until frames (both_counted n before) row at (any-in row.to rank s is lt) sight ended
+      (c.loop-rank.invariant.counted c' until frames n row at sight ended has));
 }
 
 pub returns-clause-counted : goal.returns-clause-counted
-returns-clause-counted c c' until frames n row at taps ended has =
+returns-clause-counted c c' until frames n row at sight ended has =
     let t = c.args.tables.now in
     let mine : link_row c.link.result.now ≡ row = same_Some (link_row c.link.result.now) row (sym c.link.ensures.row
     ∙ at) in
@@ -58,4 +58,4 @@ returns-clause-counted c c' until frames n row at taps ended has =
     let whole = take_all c.loop-rank.rank row.to
     (subst (λ (r : LinkRow). length r.to ≤ c.loop-rank.rank) mine (omega (arith, test, len, count))) in
     subst (λ ls. HasCounted (both_counted n (counted_to t c' until frames c.args.side row ls)) c.loop-rank.totals) whole
-    (c.loop-rank.invariant.counted c' until frames n row at taps ended has)
+    (c.loop-rank.invariant.counted c' until frames n row at sight ended has)

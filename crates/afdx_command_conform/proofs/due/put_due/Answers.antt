@@ -1,4 +1,4 @@
-use Rattle.std.proofs.Common.{map, refl, ◌∙◌}
+use Rattle.std.proofs.Common.{refl, ◌∙◌}
 use Rattle.std.proofs.KnownBytes.{Appends-nil}
 use Rattle.afdx_text.proofs.OutputLemmas.{on-err}
 use Rattle.afdx_command_conform.proofs.TellingLemmas.{begun-due, no-text, told-due}

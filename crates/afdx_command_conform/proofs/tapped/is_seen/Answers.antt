@@ -1,7 +1,7 @@
 use Rattle.std.proofs.Common.{sym, ap, ◌∙◌}
 use Rattle.afdx_config.specs.Rows.{system_row}
 use Rattle.afdx_input_lines.specs.declared.role.Role.TheVariants.{Left}
-use Rattle.afdx_command_conform.specs.Tapped.{taps_in}
+use Rattle.afdx_input_sources.specs.Tapping.{taps_in}
 use Rattle.afdx_command_conform.proofs.OutletLemmas.{port-is}
 use Rattle.afdx_command_conform.proofs.tapped.is_seen.Goals as goal
 

@@ -14,7 +14,7 @@ pub loop-place-init : goal.loop-place-init
 loop-place-init c = record {
   judged = λ taps is. (
     _,
-    none-below (outlook_of c.args.outlook) (asked_of taps c.args.asked.now) (recorded_in c.args.recorded) is,
+    none-below (outlook_of c.args.outlook) (asked_of c.args.outlook.tables.now taps c.args.asked.now) (recorded_in c.args.recorded) is,
     λ until before. c.in_ok-senders.ensures.nothing _ before,
   );
 }
@@ -43,7 +43,7 @@ pub loop-place-preserved : goal.loop-place-preserved
 loop-place-preserved c = record {
   judged = λ taps is.
       let o : Outlook = outlook_of c.args.outlook in
-      let a : Asked = asked_of taps c.args.asked.now in
+      let a : Asked = asked_of c.args.outlook.tables.now taps c.args.asked.now in
       let n : ℕ = c.loop-place.place in
       let l : LinkRow = link_row c.link.result.now in
       let there = c.link.ensures.row in
@@ -89,4 +89,4 @@ returns c = λ taps is.
       c.link_count-place-end.ensures.count,
     ) in
     let o = outlook_of c.args.outlook in
-    (past.0, all-below o (asked_of taps c.args.asked.now) c.loop-place.place past.0 all past.1, past.2)
+    (past.0, all-below o (asked_of c.args.outlook.tables.now taps c.args.asked.now) c.loop-place.place past.0 all past.1, past.2)

@@ -11,6 +11,6 @@ use Rattle.afdx_command_senders.proofs.following.senders_of.Given as goal
 abbrev pub invariant-loop-place : goal.invariant-loop-place
 invariant-loop-place l = record {
   judged : (taps : Taps) → AreRecorded taps (recorded_in l.fn.recorded) → (z : Setup)
-      × IsSettingBelow l.place (outlook_of l.fn.outlook) (asked_of taps l.asked) z
+      × IsSettingBelow l.place (outlook_of l.fn.outlook) (asked_of l.fn.outlook.tables.now taps l.asked) z
       × ((until : ℕ) (before : Option ℕ) → HaveTold (ending until z) before [] [] l.senders);
 }

@@ -1,4 +1,4 @@
-use Rattle.std.proofs.Common.{rules, ◌≡◌, Err, subst}
+use Rattle.std.proofs.Common.{rules, ◌≡◌, Err, refl, subst}
 use Rattle.afdx_input_lines.specs.FrameLines.{listed_frame}
 use Rattle.afdx_input_lines.specs.declared.fault.RunFault.TheVariants as run
 use Rattle.afdx_input_runs.specs.Arrivals.{TakesFrames}
@@ -29,7 +29,7 @@ use Rattle.afdx_command_senders.proofs.run.run_both.Goals as goal
 pub returns-in_err-judging-clause-answer : goal.returns-in_err-judging-clause-answer
 returns-in_err-judging-clause-answer g c =
     let old = g.O.Sink.written c.args.output.now in
-    let a : Asked = asked_of (g.P.Tapping.tapped c.args.options) c.args.asked in
+    let a : Asked = asked_of c.args.outlook.tables.now (g.P.Tapping.tapped c.args.options) c.args.asked in
     let o = outlook_of c.args.outlook in
     let z = setting_of o a in
     let k : RunRules = (z, a) in
@@ -48,7 +48,7 @@ returns-in_err-judging-clause-answer g c =
 pub run_judged-requires-clause-ready : goal.run_judged-requires-clause-ready
 run_judged-requires-clause-ready g c =
     let new = c.in_ok-judging.ensures in (
-      (new.0, asked_of (taps_in c.taps-taps.result) c.args.asked),
+      (new.0, asked_of c.args.outlook.tables.now (taps_in c.taps-taps.result) c.args.asked),
       new.2 (g.O.Sink.written c.args.output.now),
       λ item. tt,
     )
@@ -58,7 +58,7 @@ returns-clause-answer g c =
     let old = g.O.Sink.written c.args.output.now in
     let last = g.O.Sink.written c.run_judged.new.output in
     let new = c.in_ok-judging.ensures in
-    let a : Asked = asked_of (taps_in c.taps-taps.result) c.args.asked in
+    let a : Asked = asked_of c.args.outlook.tables.now (taps_in c.taps-taps.result) c.args.asked in
     let k : RunRules = (new.0, a) in
     let j = c.run_judged.new.judge in
     let o = outlook_of c.args.outlook in
@@ -75,7 +75,7 @@ returns-clause-answer g c =
           (λ start written past. Begins start written (AreBothSome k (frames_of past)))
           (BothCountsAll j) old last
           (λ mid items end done counted.
-          with-shown o k (frames_of items) old mid end new.1 (counted k old mid items done))
+          with-shown o k (frames_of items) old mid end new.1 refl (counted k old mid items done))
           (λ items told. record {
             lines = both_lines told.are.all;
             are_so = are-early k j old last (frames_of items) told;

@@ -26,7 +26,7 @@ use Rattle.afdx_command_senders.proofs.run.run_senders.Goals as goal
 pub returns-in_err-judging-clause-answer : goal.returns-in_err-judging-clause-answer
 returns-in_err-judging-clause-answer g c =
     let old = g.O.Sink.written c.args.output.now in
-    let a : Asked = asked_of (g.P.Tapping.tapped c.args.options) c.args.asked in
+    let a : Asked = asked_of c.args.outlook.tables.now (g.P.Tapping.tapped c.args.options) c.args.asked in
     let o = outlook_of c.args.outlook in
     let z = setting_of o a in
     let k : RunRules = (z, a) in
@@ -45,8 +45,8 @@ returns-in_err-judging-clause-answer g c =
 pub run_judged-requires-clause-ready : goal.run_judged-requires-clause-ready
 run_judged-requires-clause-ready g c =
     let new = c.in_ok-judging.ensures in (
-      (new.0, asked_of (taps_in c.taps-taps.result) c.args.asked),
-      new-tells (new.0, asked_of (taps_in c.taps-taps.result) c.args.asked) _ (g.O.Sink.written c.args.output.now)
+      (new.0, asked_of c.args.outlook.tables.now (taps_in c.taps-taps.result) c.args.asked),
+      new-tells (new.0, asked_of c.args.outlook.tables.now (taps_in c.taps-taps.result) c.args.asked) _ (g.O.Sink.written c.args.output.now)
           new.2,
       λ item. tt,
     )
@@ -56,7 +56,7 @@ returns-clause-answer g c =
     let old = g.O.Sink.written c.args.output.now in
     let last = g.O.Sink.written c.run_judged.new.output in
     let new = c.in_ok-judging.ensures in
-    let a : Asked = asked_of (taps_in c.taps-taps.result) c.args.asked in
+    let a : Asked = asked_of c.args.outlook.tables.now (taps_in c.taps-taps.result) c.args.asked in
     let k : RunRules = (new.0, a) in
     let j = c.run_judged.new.judge in
     let o = outlook_of c.args.outlook in

@@ -1,4 +1,4 @@
-use Rattle.std.proofs.Common.{◌∷◌, arith, false, refl, subst, sym}
+use Rattle.std.proofs.Common.{◌∷◌, arith, false, refl}
 use Rattle.afdx_input_sources.specs.Engine.{item_of}
 use Rattle.afdx_input_runs.specs.Joining.{Frame, frame_of}
 use Rattle.afdx_command_conform.specs.Beginning.{AreLinesBefore}

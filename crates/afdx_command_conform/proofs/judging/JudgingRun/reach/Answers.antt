@@ -1,4 +1,4 @@
-use Rattle.std.proofs.Common.{arith, false}
+use Rattle.std.proofs.Common.{false}
 use Rattle.afdx_command_conform.proofs.AddedLemmas.{on-ok}
 use Rattle.afdx_command_conform.proofs.BegunLemmas.{goes-past}
 use Rattle.afdx_command_conform.proofs.HoldingLemmas.{told-window}

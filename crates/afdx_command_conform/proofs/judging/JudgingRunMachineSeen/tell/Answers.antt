@@ -1,4 +1,4 @@
-use Rattle.std.proofs.Common.{◌≤◌, ◌∷◌, ℕ, List, arith, false, inr, refl}
+use Rattle.std.proofs.Common.{◌≤◌, ◌∷◌, ℕ, List, arith, inr, refl}
 use Rattle.afdx_input_sources.specs.Engine.{item_of}
 use Rattle.afdx_input_runs.specs.Joining.{Frame, frame_of, frames_of}
 use Rattle.afdx_text.proofs.OutputLemmas.{on-err}

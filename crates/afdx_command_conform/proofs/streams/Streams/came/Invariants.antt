@@ -10,7 +10,7 @@ use Rattle.afdx_frame.specs.Parts.{bytes_of}
 use Rattle.afdx_command_conform.specs.Choices.{Choices}
 use Rattle.afdx_command_conform.specs.Keeping.{AreKept, Given, came_to}
 use Rattle.afdx_command_conform.specs.Lines.{Due}
-use Rattle.afdx_command_conform.specs.Tapped.{taps_in}
+use Rattle.afdx_command_conform.specs.Standing.{seen_by}
 use Rattle.afdx_command_conform.specs.declared.key.Key.{Key}
 use Rattle.afdx_command_conform.proofs.TappedLemmas.{seen_ports}
 use Rattle.afdx_command_conform.proofs.streams.Streams.came.Given as goal
@@ -23,12 +23,12 @@ invariant-loop-rank l = record {
   ended : l.self.ended ≡ l.fn.self.ended;
   kept : (c : Choices) (until time : ℕ) (given : Key → Given) (lines : List Due) (row : LinkRow)
       → slice_get l.fn.self.tables.now.links l.link ≡ Some row → leeway_of l.fn.self.leeway ≡ c.by
-      → taps_in l.fn.self.taps.now ≡ c.taps
+      → seen_by l.fn.self ≡ c.sight
       → time ≤ l.heading.time → from_time c.by.start ≤ l.heading.time
       → ((k : Key) → AllByRecursion (λ x. x.time ≤ l.heading.time) (given k).came)
       → ((k : Key) → length (given k).came + 1 < most_held)
       → AreKept l.fn.self.tables.now c until None time given lines l.fn.self.kept
       → AreKept l.fn.self.tables.now c until None time
-      (came_to l.heading.side l.link (seen_ports l.fn.self.tables.now c.taps l.heading.side (take l.rank row.to))
+      (came_to l.heading.side l.link (seen_ports l.fn.self.tables.now c.sight l.heading.side (take l.rank row.to))
       (arrival_with l.n l.heading.time l.heading.side l.heading.port (bytes_of l.frame)) given) lines l.self.kept;
 }

@@ -9,7 +9,8 @@ use Rattle.afdx_input_lines.specs.declared.role.Role.TheVariants.{Left}
 use Rattle.afdx_conform.specs.declared.finding.Finding.TheVariants.{Strange}
 use Rattle.afdx_frame.specs.Parts.{bytes_of}
 use Rattle.afdx_command_conform.specs.Choices.{counts}
-use Rattle.afdx_command_conform.specs.Tapped.{Taps, is_heard, is_judged}
+use Rattle.afdx_command_conform.specs.Sight.{Sight}
+use Rattle.afdx_command_conform.specs.Tapped.{is_heard, is_judged}
 use Rattle.afdx_command_conform.specs.Frames.{frame_with, gone_of, is_stranger, place_named}
 use Rattle.afdx_command_conform.specs.Keeping.{AreKept, given_of, with_left, with_strange}
 use Rattle.afdx_command_conform.specs.Keys.{key_with}
@@ -36,19 +37,19 @@ returns-then-not-is_tapped-clause-stands c t c' until time frames lines named-is
     let l : LinkRow = get_or r.links link blank in
     let at = slice_get-get_or r.links link blank c.in-Some.ensures.link.1 in
     let to = c.in-Some.ensures.to l at in
-    let own : is_stranger r c'.taps a ≡ false =
-    subst (λ (p : Taps). is_stranger r p a ≡ false) stand.taps (sym (c.in-Some.ensures.strange a refl refl named-is)) in
-    let unseen : c'.taps Left h.side h.port ≡ false =
-    ap (λ (p : Taps). p Left h.side h.port) (sym stand.taps) ∙ sym c.is_tapped.ensures ∙ c.if-not-is_tapped.true in
+    let own : is_stranger r c'.sight a ≡ false =
+    subst (λ (p : Sight). is_stranger r p a ≡ false) stand.sight (sym (c.in-Some.ensures.strange a refl refl named-is)) in
+    let unseen : c'.sight.is_seen h.side h.port ≡ false =
+    ap (λ (p : Sight). p.is_seen h.side h.port) (sym stand.sight) ∙ sym c.is_tapped.ensures ∙ c.if-not-is_tapped.true in
     subst (λ (x : Rows). StreamsStand x c' until (frame_with Left a ∷ frames) lines time c.args.self.now) stand.tables
     (record {
       lawful = mine.lawful;
       tables = refl;
       by = mine.by;
-      taps = mine.taps;
+      sight = mine.sight;
       kept = join-unseen r c' until c.args.self.now.ended time frames lines c.args.self.now.kept mine.lawful a link l
           (subst (λ (x : Rows). counts x c' (frame_with Left a) ≡ true) (sym stand.tables) e) named to.0 own
-          (ap (λ v. is_heard r c'.taps h.side l && v) unseen ∙ and-false (is_heard r c'.taps h.side l)) mine.kept;
+          (ap (λ v. is_heard r c'.sight h.side l && v) unseen ∙ and-false (is_heard r c'.sight h.side l)) mine.kept;
     })
 
 pub returns-in-Some-clause-stands : goal.returns-in-Some-clause-stands
@@ -70,12 +71,12 @@ returns-in-Some-clause-stands c t c' until time frames lines named-is e le behin
     let n = left-few r c' frames key in
     let mine-e : counts r c' (frame_with Left a) ≡ true =
     subst (λ (x : Rows). counts x c' (frame_with Left a) ≡ true) (sym stand.tables) e in
-    let own : is_stranger r c'.taps a ≡ false =
-    subst (λ (p : Taps). is_stranger r p a ≡ false) stand.taps (sym (c.in-Some.ensures.strange a refl refl named-is)) in
-    let sees : c'.taps Left h.side h.port ≡ true =
-    ap (λ (p : Taps). p Left h.side h.port) (sym stand.taps) ∙ sym c.is_tapped.ensures ∙ c.if-not-is_tapped.false in
-    let judges : is_judged r c'.taps h.side l h.port ≡ true =
-    ap (λ v. v && c'.taps Left h.side h.port) (stream-heard r c'.taps a link l own named at) ∙ sees in
+    let own : is_stranger r c'.sight a ≡ false =
+    subst (λ (p : Sight). is_stranger r p a ≡ false) stand.sight (sym (c.in-Some.ensures.strange a refl refl named-is)) in
+    let sees : c'.sight.is_seen h.side h.port ≡ true =
+    ap (λ (p : Sight). p.is_seen h.side h.port) (sym stand.sight) ∙ sym c.is_tapped.ensures ∙ c.if-not-is_tapped.false in
+    let judges : is_judged r c'.sight h.side l h.port ≡ true =
+    ap (λ v. v && c'.sight.is_seen h.side h.port) (stream-heard r c'.sight a link l own named at) ∙ sees in
     let left : gone_of (arrival_with c.args.n h.time h.side h.port c.in_ok-bytes.bytes) ≡ gone_of a =
     ap (λ b. gone_of (arrival_with c.args.n h.time h.side h.port b)) c.in_ok-bytes.ensures in
     on-ok (λ k. subst (λ (x : Rows). StreamsStand x c' until (frame_with Left a ∷ frames) lines time
@@ -83,7 +84,7 @@ returns-in-Some-clause-stands c t c' until time frames lines named-is e le behin
       lawful = mine.lawful;
       tables = refl;
       by = mine.by;
-      taps = mine.taps;
+      sight = mine.sight;
       kept = subst (λ o. AreKept r c' until o time (given_of r c' (frame_with Left a ∷ frames)) lines
           c.leave_to.new.kept) (sym running)
           (join-left r c' until None time frames lines c.leave_to.new.kept mine.lawful a link l mine-e named to.0
@@ -94,7 +95,7 @@ returns-in-Some-clause-stands c t c' until time frames lines named-is e le behin
           (subst (λ g. AreKept r c' until None time (with_left key g (given_of r c' frames)) lines
           c.leave_to.new.kept) left k)));
     })) c.leave_to.result
-    (c.leave_to.ensures c' until time (given_of r c' frames) lines l at to.2 mine.by le (left-start r c' a mine-e)
+    (c.leave_to.ensures c' until time (given_of r c' frames) lines l at to.2 (record { by = mine.by; sight = mine.sight }) le (left-start r c' a mine-e)
     (left-times r c' frames h.time (counted-behind r c' frames h.time behind) key) (omega (arith, n, few)) old)
 
 pub returns-clause-stands : goal.returns-clause-stands
@@ -107,8 +108,8 @@ returns-clause-stands c t c' until time frames lines named-is e le behind few ru
     subst (λ (x : Rows). StreamsStand x c' until frames lines time c.args.self.now) (sym stand.tables) stand in
     let named : place_named r a.bytes ≡ c.args.named =
     sym named-is in
-    let strange : is_stranger r c'.taps a ≡ true =
-    subst (λ (p : Taps). is_stranger r p a ≡ true) stand.taps
+    let strange : is_stranger r c'.sight a ≡ true =
+    subst (λ (p : Sight). is_stranger r p a ≡ true) stand.sight
     (sym (c.in_default.ensures.strange a refl refl named-is)) in
     let why : c.why_strange-why.result ≡ stranger_reason r a.bytes =
     c.why_strange-why.ensures ∙ ap (λ b. stranger_by b (fault_of None 0 a.bytes)) (c.is_some.ensures
@@ -121,7 +122,7 @@ returns-clause-stands c t c' until time frames lines named-is e le behind few ru
       lawful = mine.lawful;
       tables = refl;
       by = mine.by;
-      taps = mine.taps;
+      sight = mine.sight;
       kept = subst (λ o. AreKept r c' until o time (given_of r c'
           (frame_with Left a ∷ frames)) lines c.leave_strange.new.kept) (sym running)
           (join-strange r c' until None time frames lines c.leave_strange.new.kept mine.lawful a (subst (λ

@@ -7,7 +7,7 @@ returns-clause-told c t c' until time frames lines up stand =
       lawful = stand.lawful;
       tables = stand.tables;
       by = stand.by;
-      taps = stand.taps;
+      sight = stand.sight;
       kept =
           k;
     }) c.in_ok-taken.taken
@@ -20,7 +20,7 @@ returns-clause-none c t c' until time frames lines stand =
         lawful = stand.lawful;
         tables = stand.tables;
         by = stand.by;
-        taps = stand.taps;
+        sight = stand.sight;
         kept =
             k.0;
       },

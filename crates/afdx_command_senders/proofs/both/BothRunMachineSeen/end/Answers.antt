@@ -58,7 +58,7 @@ returns-clause-done g c = λ k start past h.
         works = record {
           tables = ap (λ (t : Bor Rows). t.now) (c.tell_merged.ensures.others.tables ∙ c.collect.ensures.others.tables)
               ∙ h.counts.works.tables;
-          asked = ap (λ (s : SenderChoices). asked_of k.1.run.taps s)
+          asked = ap (λ (s : SenderChoices). asked_of k.0.tables k.1.taps s)
               (c.tell_merged.ensures.others.asked ∙ c.collect.ensures.others.asked)
               ∙ h.counts.works.asked;
           left_out = c.tell_merged.ensures.others.left_out ∙ c.collect.ensures.others.left_out

@@ -129,7 +129,7 @@ returns-clause-told g c = λ k start past h follows can.
     (none-due-yet (switch_rules k) (latest_of frames) c.args.self.now.switch frames h.dues c.new-due.ensures.items
     (h.judged.works, h.judged.stands))) in
     let told = told_in lines ++ h.told in
-    let asked = ap (λ (s : SenderChoices). asked_of k.1.run.taps s)
+    let asked = ap (λ (s : SenderChoices). asked_of k.0.tables k.1.taps s)
     (c.tell_merged.ensures.others.asked ∙ c.collect.ensures.others.asked) ∙ h.counts.works.asked in
     let to = told-up k c.args.self.now start _ frames h x latest lines ds c.collect.new.self.senders c.reach.new.self up
     reached in
@@ -145,8 +145,8 @@ returns-clause-told g c = λ k start past h follows can.
           tables = ap (λ (t : Bor Rows). t.now) (c.take.ensures.others.tables ∙ c.tell_merged.ensures.others.tables
               ∙ c.collect.ensures.others.tables)
               ∙ h.counts.works.tables;
-          asked = ap (λ (s : SenderChoices). asked_of k.1.run.taps s) c.take.ensures.others.asked ∙ asked;
-          left_out = c.in_ok-take.ensures.counted k.1 frames asked
+          asked = ap (λ (s : SenderChoices). asked_of k.0.tables k.1.taps s) c.take.ensures.others.asked ∙ asked;
+          left_out = c.in_ok-take.ensures.counted k.0.tables k.1 frames asked
               (c.tell_merged.ensures.others.left_out ∙ c.collect.ensures.others.left_out ∙ h.counts.works.left_out);
           latest = refl;
           few = let f = are-few past follows.few in omega (arith, f);
@@ -156,7 +156,7 @@ returns-clause-told g c = λ k start past h follows can.
             (c.collect.ensures.others.findings ∙ h.counts.findings)
             ∙ ap (λ (n : ℕ). min n most_counted) (sym (found-told (told_in lines) h.told));
       };
-      have = λ until may. c.in_ok-take.ensures.came k.1 (ending until k.0) frames told asked
+      have = λ until may. c.in_ok-take.ensures.came k.0.tables k.1 (ending until k.0) frames told asked
           (subst (λ (s : Senders). HaveTold (ending until k.0) (Some c.args.seen.now.heading.time) (came_in k.1 frames)
           told s) (sym c.tell_merged.ensures.others.senders) (to until may).0);
       early = told-next k c.args.self.now start _ frames h x latest lines ds c.collect.new.self.senders

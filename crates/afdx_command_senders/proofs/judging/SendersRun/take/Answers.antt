@@ -17,20 +17,20 @@ use Rattle.afdx_command_senders.proofs.judging.SendersRun.take.Goals as goal
 -- ---- before its start or behind its end
 
 pub returns-then-not-is_in_time-clause-counted : goal.returns-then-not-is_in_time-clause-counted
-returns-then-not-is_in_time-clause-counted c = λ a frames asked before.
+returns-then-not-is_in_time-clause-counted c = λ t a frames asked before.
     let x : Frame = frame_of (item_of c.args.n c.args.seen.now c.args.message.now) in
     missed-next a x frames c.args.self.now.left_out c.args.self.now.left_out false
     (missed-out a x (subst (λ (o : Choices). is_in_time o x ≡ false) (ap (λ (b : Asked). b.run) asked)
-    (sym (c.is_in_time.ensures a.run.taps c.args.message.now c.args.n) ∙ c.if-not-is_in_time.true))) before
+    (sym (c.is_in_time.ensures a.run.sight c.args.message.now c.args.n) ∙ c.if-not-is_in_time.true))) before
     (let b = before in omega (arith, b))
 
 pub returns-then-not-is_in_time-clause-came : goal.returns-then-not-is_in_time-clause-came
-returns-then-not-is_in_time-clause-came c = λ a z frames told asked have.
+returns-then-not-is_in_time-clause-came c = λ t a z frames told asked have.
     let x : Frame = frame_of (item_of c.args.n c.args.seen.now c.args.message.now) in
     subst (λ (l : List Arrival). HaveTold z (Some c.args.seen.now.heading.time) l told c.args.self.now.senders)
     (sym (came-not a x frames (out-of-time a x (subst (λ (o : Choices). is_in_time o x ≡ false)
     (ap (λ (b : Asked). b.run) asked)
-    (sym (c.is_in_time.ensures a.run.taps c.args.message.now c.args.n) ∙ c.if-not-is_in_time.true))))) have
+    (sym (c.is_in_time.ensures a.run.sight c.args.message.now c.args.n) ∙ c.if-not-is_in_time.true))))) have
 
 -- ---- no memory for its link
 
@@ -42,7 +42,7 @@ returns-in_err-vl-clause-begun c = λ a z frames told have.
 -- ---- of a link that is left out
 
 pub returns-then-is_left_out-clause-counted : goal.returns-then-is_left_out-clause-counted
-returns-then-is_left_out-clause-counted c = λ a frames asked before.
+returns-then-is_left_out-clause-counted c = λ t a frames asked before.
     let x : Frame = frame_of (item_of c.args.n c.args.seen.now c.args.message.now) in
     let run = ap (λ (b : Asked). b.run) asked in
     let named = c.is_left_out.ensures
@@ -50,12 +50,12 @@ returns-then-is_left_out-clause-counted c = λ a frames asked before.
     (c.in_ok-vl.ensures ∙ ap link_named_by c.frame-frame.ensures) in
     missed-next a x frames c.args.self.now.left_out c.saturating_add-self.result true
     (missed-in a x true (subst (λ (o : Choices). is_in_time o x ≡ true) run
-    (sym (c.is_in_time.ensures a.run.taps c.args.message.now c.args.n) ∙ c.if-not-is_in_time.false))
+    (sym (c.is_in_time.ensures a.run.sight c.args.message.now c.args.n) ∙ c.if-not-is_in_time.false))
     (subst (λ (o : Choices). is_left_out o x ≡ true) run (sym named ∙ c.if-is_left_out.true))) before
     c.saturating_add-self.ensures
 
 pub returns-then-is_left_out-clause-came : goal.returns-then-is_left_out-clause-came
-returns-then-is_left_out-clause-came c = λ a z frames told asked have.
+returns-then-is_left_out-clause-came c = λ t a z frames told asked have.
     let x : Frame = frame_of (item_of c.args.n c.args.seen.now c.args.message.now) in
     let run = ap (λ (b : Asked). b.run) asked in
     let named = c.is_left_out.ensures
@@ -68,7 +68,7 @@ returns-then-is_left_out-clause-came c = λ a z frames told asked have.
 -- ---- it left
 
 pub returns-in-Left-clause-counted : goal.returns-in-Left-clause-counted
-returns-in-Left-clause-counted c = λ a frames asked before.
+returns-in-Left-clause-counted c = λ t a frames asked before.
     let x : Frame = frame_of (item_of c.args.n c.args.seen.now c.args.message.now) in
     let run = ap (λ (b : Asked). b.run) asked in
     let named = c.is_left_out.ensures
@@ -76,12 +76,12 @@ returns-in-Left-clause-counted c = λ a frames asked before.
     (c.in_ok-vl.ensures ∙ ap link_named_by c.frame-frame.ensures) in
     missed-next a x frames c.args.self.now.left_out c.args.self.now.left_out false
     (missed-in a x false (subst (λ (o : Choices). is_in_time o x ≡ true) run
-    (sym (c.is_in_time.ensures a.run.taps c.args.message.now c.args.n) ∙ c.if-not-is_in_time.false))
+    (sym (c.is_in_time.ensures a.run.sight c.args.message.now c.args.n) ∙ c.if-not-is_in_time.false))
     (subst (λ (o : Choices). is_left_out o x ≡ false) run (sym named ∙ c.if-is_left_out.false))) before
     (let b = before in omega (arith, b))
 
 pub returns-in-Left-clause-came : goal.returns-in-Left-clause-came
-returns-in-Left-clause-came c = λ a z frames told asked have.
+returns-in-Left-clause-came c = λ t a z frames told asked have.
     let x : Frame = frame_of (item_of c.args.n c.args.seen.now c.args.message.now) in
     subst (λ (l : List Arrival). HaveTold z (Some c.args.seen.now.heading.time) l told c.args.self.now.senders)
     (sym (came-not a x frames (out-of-role a x (ap (λ r. is_of_came r) c.in-Left.is)))) have
@@ -89,7 +89,7 @@ returns-in-Left-clause-came c = λ a z frames told asked have.
 -- ---- it came
 
 pub returns-in-Came-clause-counted : goal.returns-in-Came-clause-counted
-returns-in-Came-clause-counted c = λ a frames asked before.
+returns-in-Came-clause-counted c = λ t a frames asked before.
     let x : Frame = frame_of (item_of c.args.n c.args.seen.now c.args.message.now) in
     let run = ap (λ (b : Asked). b.run) asked in
     let named = c.is_left_out.ensures
@@ -98,12 +98,12 @@ returns-in-Came-clause-counted c = λ a frames asked before.
     on-ok c.came.result _
     (missed-next a x frames c.args.self.now.left_out c.args.self.now.left_out false
     (missed-in a x false (subst (λ (o : Choices). is_in_time o x ≡ true) run
-    (sym (c.is_in_time.ensures a.run.taps c.args.message.now c.args.n) ∙ c.if-not-is_in_time.false))
+    (sym (c.is_in_time.ensures a.run.sight c.args.message.now c.args.n) ∙ c.if-not-is_in_time.false))
     (subst (λ (o : Choices). is_left_out o x ≡ false) run (sym named ∙ c.if-is_left_out.false))) before
     (let b = before in omega (arith, b)))
 
 pub returns-in-Came-clause-came : goal.returns-in-Came-clause-came
-returns-in-Came-clause-came c = λ a z frames told asked have.
+returns-in-Came-clause-came c = λ t a z frames told asked have.
     let h = c.args.seen.now.heading in
     let x : Frame = frame_of (item_of c.args.n c.args.seen.now c.args.message.now) in
     let run = ap (λ (b : Asked). b.run) asked in
@@ -112,7 +112,7 @@ returns-in-Came-clause-came c = λ a z frames told asked have.
     (c.in_ok-vl.ensures ∙ ap link_named_by c.frame-frame.ensures) in
     let so = does-count a x (ap (λ r. is_of_came r) c.in-Came.is)
     (subst (λ (o : Choices). is_in_time o x ≡ true) run
-    (sym (c.is_in_time.ensures a.run.taps c.args.message.now c.args.n) ∙ c.if-not-is_in_time.false))
+    (sym (c.is_in_time.ensures a.run.sight c.args.message.now c.args.n) ∙ c.if-not-is_in_time.false))
     (subst (λ (o : Choices). is_left_out o x ≡ false) run (sym named ∙ c.if-is_left_out.false)) in
     subst (λ (l : List Arrival). OnOk c.came.result (HaveTold z (Some h.time) l told c.came.new.self))
     (ap (λ (b : List ℕ). arrival_with c.args.n h.time h.side h.port b ∷ came_in a frames) c.frame-frame.ensures
