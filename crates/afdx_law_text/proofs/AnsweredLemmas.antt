@@ -12,12 +12,13 @@ use Rattle.afdx_cascade.specs.SwitchEvents.{came_to}
 use Rattle.afdx_command_conform.specs.Choices.{Choices, until_or}
 use Rattle.afdx_command_conform.specs.Lines.{Due}
 use Rattle.afdx_command_conform.specs.RunLaws.{ConformsIsTheHeadline, IsExactBy, RightConforms}
+use Rattle.afdx_command_conform.specs.Sight.{HasBags}
 use Rattle.afdx_command_conform.specs.VerdictLaws.{ExactConforms, IsExercised, IsRun, RightNeverDeviates, SomeLeft, answered}
 use Rattle.afdx_text.specs.declared.conform_line.Answer.TheVariants.{Conforms}
 use Rattle.afdx_law_text.specs.Laws.{AreLinesOf, IsAnswered, IsPlain, PromisedIsAnswered, ReplaysAreAnswered, SwitchesAreAnswered}
 use Rattle.afdx_law_text.specs.Recorded.{AreRecorded}
 use Rattle.afdx_law_text.specs.Leaving.{LeaveAsPromised}
-use Rattle.afdx_law_text.proofs.ConformLemmas.{end-is, lines-there, promised-conforms, run-there, told-alone}
+use Rattle.afdx_law_text.proofs.ConformLemmas.{bags-seen, end-is, lines-there, promised-conforms, run-there, told-alone}
 use Rattle.afdx_law_text.proofs.PromisedLemmas.{kept-leave}
 use Rattle.afdx_law_text.proofs.SomeLemmas.{some-here}
 use Rattle.afdx_law_text.proofs.StreamLemmas.{are-right}
@@ -28,24 +29,27 @@ module _ (right : RightConforms) (never : RightNeverDeviates) (headline : Confor
       (lines : List Due)
       (lawful : IsLawfulSwitch t) (timed : AreTimed arrivals) (promised : LeaveAsPromised t arrivals left)
       (are : AreLinesOf t c arrivals left frames lines) where
+    bags : HasBags t c.sight
+    bags = bags-seen t c are.taps lawful are.sees
+
     run : IsRun (t, c) frames lines
     run = record { lawful = lawful; by_time = are.recorded.by_time; are_lines = are.are_lines }
 
     exact-answer : IsExactBy c.by → SomeLeft (t, c) frames → IsExercised (t, c) frames lines
         → answered (t, c) frames lines ≡ Conforms
     exact-answer exact some exercised =
-        (exactly (t, c) frames lines exact run).1 (
+        (exactly (t, c) frames lines exact bags run).1 (
           some,
-          (headline t c frames lines lawful are.recorded.by_time exact are.are_lines).found.0
+          (headline t c frames lines lawful bags are.recorded.by_time exact are.are_lines).found.0
               (promised-conforms right t c arrivals left frames lines lawful timed promised are),
           exercised,
         )
 
-    some-left : (ds : List Leaving) → left ≡ ds → 0 < length ds → IsPlain c → SomeLeft (t, c) frames
+    some-left : (ds : List Leaving) → left ≡ ds → 0 < length ds → IsPlain t c → SomeLeft (t, c) frames
     some-left [] e some plain = absurd (omega (arith, some))
     some-left (d ∷ more) e some plain =
-        some-here t c lawful arrivals timed d more (subst (LeaveAsPromised t arrivals) e promised) frames
-        (subst (λ (ds : List Leaving). AreRecorded c.taps arrivals ds frames) e are.recorded) plain
+        some-here t c are.taps lawful arrivals timed d more (subst (LeaveAsPromised t arrivals) e promised) frames
+        are.sees (subst (λ (ds : List Leaving). AreRecorded are.taps arrivals ds frames) e are.recorded) plain
 
     pub is-answered : IsAnswered t c left frames lines
     is-answered =
@@ -54,9 +58,9 @@ module _ (right : RightConforms) (never : RightNeverDeviates) (headline : Confor
           plain = λ plain some. exact-answer plain.exact (some-left left refl some plain)
               (λ is. absurd (true≢false (sym is ∙ plain.exercised)));
           exact = exact-answer;
-          never = λ findings e. never (t, c) frames lines findings (omega (arith, drift)) run
-              (are-right t c (until_or c.until frames) lawful arrivals timed left promised frames are.recorded
-              (end-is c.until frames)) e;
+          never = λ findings e. never (t, c) frames lines findings (omega (arith, drift)) bags run
+              (are-right t c are.taps (until_or c.until frames) lawful arrivals timed left promised frames are.sees
+              are.recorded (end-is c.until frames)) e;
         }
 
   pub promised-answered : PromisedIsAnswered

@@ -1,8 +1,10 @@
 -- What a replay tells conforms.
-use Rattle.std.proofs.Common.{◌≡◌, ℕ, List, ap, subst, arith}
+use Rattle.std.proofs.Common.{◌≡◌, ℕ, List, ap, sym, subst, arith}
 use Rattle.std.specs.Prelude.{Option, Some, None}
 use Rattle.std.specs.Option.{ForSome}
 use Rattle.afdx_frame.proofs.ListLemmas.{slice_get-within}
+use Rattle.afdx_config.specs.Lawful.{IsLawfulSwitch}
+use Rattle.afdx_config.specs.Rows.{Rows}
 use Rattle.afdx_config.specs.Switches.{NamedRows}
 use Rattle.afdx_switch.specs.Admitted.{IsAdmittedRun}
 use Rattle.afdx_network.specs.Events.{Event}
@@ -16,6 +18,9 @@ use Rattle.afdx_input_runs.specs.Joining.{Frame}
 use Rattle.afdx_command_conform.specs.Choices.{Choices, until_or}
 use Rattle.afdx_command_conform.specs.Lines.{Due}
 use Rattle.afdx_command_conform.specs.RunLaws.{ConformsIsTheHeadline, RightConforms}
+use Rattle.afdx_command_conform.specs.Sight.{HasBags, Sight}
+use Rattle.afdx_command_conform.specs.Tapped.{Taps, of_tables}
+use Rattle.afdx_command_conform.proofs.RunLawLemmas.{tables-have-bags}
 use Rattle.afdx_law_text.specs.Laws.{AreLinesOf, IsSwitchOf, PromisedConforms, PromisedConformsExactly, ReplaysConform, ReplaysConformExactly, SwitchesConform, SwitchesConformExactly, left_from_switch}
 use Rattle.afdx_law_text.proofs.PromisedLemmas.{kept-leave}
 use Rattle.afdx_law_text.proofs.StreamLemmas.{are-right}
@@ -25,16 +30,24 @@ pub end-is : (o : Option ℕ) (frames : List Frame) → ForSome o (λ end. until
 end-is None frames end e = absurd (cc e)
 end-is (Some time) frames end e = cc e
 
+-- what is seen by tables has BAGs
+pub bags-seen : (t : Rows) (c : Choices) (taps : Taps) → IsLawfulSwitch t → c.sight ≡ of_tables t taps
+    → HasBags t c.sight
+bags-seen t c taps lawful sees =
+    subst (λ (o : Sight). HasBags t o) (sym sees) (tables-have-bags t taps lawful)
+
 pub promised-conforms : RightConforms → PromisedConforms
 promised-conforms right t c arrivals left frames lines lawful timed promised are =
     let drift = are.leeway.drift in
-    right t c (until_or c.until frames) frames lines lawful are.recorded.by_time (omega (arith, drift)) are.are_lines
-    (are-right t c (until_or c.until frames) lawful arrivals timed left promised frames are.recorded
+    right t c (until_or c.until frames) frames lines lawful (bags-seen t c are.taps lawful are.sees)
+    are.recorded.by_time (omega (arith, drift)) are.are_lines
+    (are-right t c are.taps (until_or c.until frames) lawful arrivals timed left promised frames are.sees are.recorded
     (end-is c.until frames))
 
 pub promised-conforms-exactly : RightConforms → ConformsIsTheHeadline → PromisedConformsExactly
 promised-conforms-exactly right headline t c arrivals left frames lines lawful timed promised exact are =
-    (headline t c frames lines lawful are.recorded.by_time exact are.are_lines).none.0
+    (headline t c frames lines lawful (bags-seen t c are.taps lawful are.sees) are.recorded.by_time exact
+    are.are_lines).none.0
     (promised-conforms right t c arrivals left frames lines lawful timed promised are)
 
 pub replays-conform : RightConforms → PromisesAreKept → ReplaysConform

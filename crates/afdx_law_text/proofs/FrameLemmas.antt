@@ -23,7 +23,8 @@ use Rattle.afdx_conform.proofs.EveryLemmas.{every-on}
 use Rattle.afdx_command_conform.specs.Choices.{Choices, is_in_time, is_left_out, is_passed, is_same_link, counts, latest_of}
 use Rattle.afdx_command_conform.specs.Frames.{arrivals_of, frames_of, is_arrival_of, left_at, gone_of}
 use Rattle.afdx_command_conform.specs.RunLaws.{AreByTime}
-use Rattle.afdx_command_conform.specs.Tapped.{Taps, is_heard_at, is_of_came, place_named, link_to, is_judged, is_unheard, judged_to}
+use Rattle.afdx_command_conform.specs.Sight.{Sight}
+use Rattle.afdx_command_conform.specs.Tapped.{Taps, of_tables, is_heard_at, is_of_came, place_named, link_to, is_judged, is_unheard, judged_to}
 use Rattle.afdx_command_conform.proofs.StrangerLemmas.{heard-at, heard-counts}
 use Rattle.afdx_law_text.specs.Recorded.{came_among, left_among, AreRecordsOf}
 use Rattle.afdx_law_text.proofs.ListLemmas.{filter-same, filter-twice, Descend, descend-filter, descend-map, and-false}
@@ -139,28 +140,29 @@ pub record IsJudgedOf (t : Rows) (taps : Taps) (side : Side) (place port : ℕ) 
   pub seen : taps Left side port ≡ true
 
 pub judged-of : (t : Rows) (taps : Taps) (side : Side) (place port : ℕ) (l : LinkRow)
-    → judged_to t taps side place port ≡ Some l → IsJudgedOf t taps side place port l
+    → judged_to t (of_tables t taps) side place port ≡ Some l → IsJudgedOf t taps side place port l
 unfolding judged_to link_to
 judged-of t taps side place port l h = by (slice_get t.links place) refl h
   where
-    both : (k : LinkRow) (b : Bool) → is_judged t taps side k port ≡ b → (if b then Some k else None) ≡ Some l
-        → (k ≡ l) × (is_judged t taps side k port ≡ true)
+    both : (k : LinkRow) (b : Bool) → is_judged t (of_tables t taps) side k port ≡ b
+        → (if b then Some k else None) ≡ Some l
+        → (k ≡ l) × (is_judged t (of_tables t taps) side k port ≡ true)
     both k true e f = (cc f, e)
     both k false e f = absurd (cc f)
 
     goes-on : (k : LinkRow) → slice_get t.links place ≡ Some k → (b : Bool) → goes_to t k port ≡ b
-        → option_and_then (λ l. if is_judged t taps side l port then Some l else None) (if b then Some k else None)
-        ≡ Some l
+        → option_and_then (λ l. if is_judged t (of_tables t taps) side l port then Some l else None)
+        (if b then Some k else None) ≡ Some l
         → IsJudgedOf t taps side place port l
     goes-on k e false f g = absurd (cc g)
     goes-on k e true f g =
-        let is = both k (is_judged t taps side k port) refl g in
+        let is = both k (is_judged t (of_tables t taps) side k port) refl g in
         let parts = and_parts (taps Came side (port_of t k.from)) (taps Left side port) is.1 in
         subst (λ (m : LinkRow). IsJudgedOf t taps side place port m) is.0
         (record { stands = e; goes = f; heard = parts.0; seen = parts.1 })
 
     by : (o : Option LinkRow) → slice_get t.links place ≡ o
-        → option_and_then (λ l. if is_judged t taps side l port then Some l else None)
+        → option_and_then (λ l. if is_judged t (of_tables t taps) side l port then Some l else None)
         (option_and_then (λ l. if goes_to t l port then Some l else None) o) ≡ Some l
         → IsJudgedOf t taps side place port l
     by None e g = absurd (cc g)
@@ -169,9 +171,19 @@ judged-of t taps side place port l h = by (slice_get t.links place) refl h
 -- and with both ports recorded it is
 pub to-judged : (t : Rows) (taps : Taps) (side : Side) (place port : ℕ) (l : LinkRow)
     → slice_get t.links place ≡ Some l → goes_to t l port ≡ true → taps Came side (port_of t l.from) ≡ true
-    → taps Left side port ≡ true → judged_to t taps side place port ≡ Some l
+    → taps Left side port ≡ true → judged_to t (of_tables t taps) side place port ≡ Some l
 unfolding judged_to link_to
 to-judged t taps side place port l at goes heard seen = rw (at, goes, heard, seen) refl
+
+-- ---- what is asked of a switch between taps
+
+-- what is asked, where the switch is seen by its tables and these ports
+abbrev pub with_taps : Rows → Taps → Choices → Choices
+with_taps t taps c = record c { sight = of_tables t taps }
+
+-- nothing else, where it is
+pub with-same : (t : Rows) (taps : Taps) (c : Choices) → c.sight ≡ of_tables t taps → with_taps t taps c ≡ c
+with-same t taps c sees = ap (λ (o : Sight). record c { sight = o }) (sym sees)
 
 -- ---- what is passed over
 
@@ -184,19 +196,22 @@ pub left-out-is : (c : Choices) (vl : ℕ) (x : Frame) → names vl x.arrival.by
 left-out-is c vl x named =
     ap (λ (o : Option VlId). list_any (λ link. is_same_link link o) c.left_out) (named-link vl x.arrival.bytes named)
 
-module _ (t : Rows) (c : Choices) (lawful : IsLawfulSwitch t) (side : Side) (place port : ℕ) (l : LinkRow)
-    (is : IsJudgedOf t c.taps side place port l) where
-  came-heard : (x : Arrival) → is_unheard t c.taps (frame_as Came x) ≡ false
+module _ (t : Rows) (base : Choices) (taps : Taps) (lawful : IsLawfulSwitch t) (side : Side) (place port : ℕ)
+    (l : LinkRow) (is : IsJudgedOf t taps side place port l) where
+  abbrev c : Choices
+  c = with_taps t taps base
+
+  came-heard : (x : Arrival) → is_unheard t c.sight (frame_as Came x) ≡ false
   unfolding is_unheard
   came-heard x = refl
 
   left-heard : (x : Arrival) → is_side x.side side ≡ true → names l.vl x.bytes ≡ true
-      → is_unheard t c.taps (frame_as Left x) ≡ false
+      → is_unheard t c.sight (frame_as Left x) ≡ false
   left-heard x here named =
       let same : x.side ≡ side = side-here x.side side here in
-      heard-counts t c.taps (frame_as Left x) (ap (λ o. is_heard_at t c.taps x.side o)
+      heard-counts t c.sight (frame_as Left x) (ap (λ o. is_heard_at t c.sight x.side o)
       (place-named-is t lawful place l is.stands x.bytes named)
-      ∙ ap (λ d. is_heard_at t c.taps d (Some place)) same ∙ heard-at t c.taps side place l is.stands ∙ is.heard)
+      ∙ ap (λ d. is_heard_at t c.sight d (Some place)) same ∙ heard-at t c.sight side place l is.stands ∙ is.heard)
 
   or-false : (a b : Bool) → b ≡ false → (a || b) ≡ a
   or-false true b e = refl
@@ -204,19 +219,19 @@ module _ (t : Rows) (c : Choices) (lawful : IsLawfulSwitch t) (side : Side) (pla
 
   pub came-passed : (x : Arrival) → names l.vl x.bytes ≡ true → is_passed t c (frame_as Came x) ≡ leaves_out c l.vl
   came-passed x named =
-      or-false (is_left_out c (frame_as Came x)) (is_unheard t c.taps (frame_as Came x)) (came-heard x)
+      or-false (is_left_out c (frame_as Came x)) (is_unheard t c.sight (frame_as Came x)) (came-heard x)
       ∙ left-out-is c l.vl (frame_as Came x) named
 
   pub left-passed : (x : Arrival) → is_side x.side side ≡ true → names l.vl x.bytes ≡ true
       → is_passed t c (frame_as Left x) ≡ leaves_out c l.vl
   left-passed x here named =
-      or-false (is_left_out c (frame_as Left x)) (is_unheard t c.taps (frame_as Left x)) (left-heard x here named)
+      or-false (is_left_out c (frame_as Left x)) (is_unheard t c.sight (frame_as Left x)) (left-heard x here named)
       ∙ left-out-is c l.vl (frame_as Left x) named
 
   -- ---- its arrivals
 
   abbrev pub asks_of : Arrival → Bool
-  asks_of x = c.taps Came x.side x.port && (not (is_passed t c (frame_as Came x)) && nat_le (length x.bytes) most_bytes)
+  asks_of x = taps Came x.side x.port && (not (is_passed t c (frame_as Came x)) && nat_le (length x.bytes) most_bytes)
 
   abbrev pub came_of : Arrival → Bool
   came_of x = is_in_time c (frame_as Came x) && asks_of x
@@ -253,28 +268,28 @@ module _ (t : Rows) (c : Choices) (lawful : IsLawfulSwitch t) (side : Side) (pla
   unfolding is_arrival_of
   left-none x = and-false (counts t c (frame_as Left x))
 
-  came-turned : (x : Arrival) → (c.taps Came x.side x.port && counts_came x)
+  came-turned : (x : Arrival) → (taps Came x.side x.port && counts_came x)
       ≡ ((is_side side x.side && names l.vl x.bytes) && came_of x)
   unfolding counts
   came-turned x =
-      turned (c.taps Came x.side x.port) (is_in_time c (frame_as Came x)) (not (is_passed t c (frame_as Came x)))
+      turned (taps Came x.side x.port) (is_in_time c (frame_as Came x)) (not (is_passed t c (frame_as Came x)))
       (nat_le (length x.bytes) most_bytes) (is_side x.side side) (names l.vl x.bytes)
       ∙ ap (λ b. (b && names l.vl x.bytes) && came_of x) (side-turned x.side side)
 
   -- of the link's own arrivals those that count
   pub arrivals-are : (arrivals : List Arrival) (frames : List Frame)
-      → came_among frames ≡ filter (λ x. c.taps Came x.side x.port) arrivals
+      → came_among frames ≡ filter (λ x. taps Came x.side x.port) arrivals
       → arrivals_of t c l.vl side frames ≡ filter came_of (own l.vl side arrivals)
   arrivals-are arrivals frames came =
       ap (λ (fs : List Frame). map (λ x. x.arrival) fs) (filter-twice (is_arrival_of l.vl side) (counts t c) frames)
       ∙ came-filter (λ x. counts t c x && is_arrival_of l.vl side x) counts_came came-test left-none frames
       ∙ ap (λ (xs : List Arrival). filter counts_came xs) came
-      ∙ filter-twice counts_came (λ x. c.taps Came x.side x.port) arrivals
-      ∙ filter-same (λ x. c.taps Came x.side x.port && counts_came x)
+      ∙ filter-twice counts_came (λ x. taps Came x.side x.port) arrivals
+      ∙ filter-same (λ x. taps Came x.side x.port && counts_came x)
       (λ x. (is_side side x.side && names l.vl x.bytes) && came_of x) arrivals (all arrivals)
       ∙ sym (filter-twice came_of (λ x. is_side side x.side && names l.vl x.bytes) arrivals)
     where
-      all : (xs : List Arrival) → AllByRecursion (λ x. (c.taps Came x.side x.port && counts_came x)
+      all : (xs : List Arrival) → AllByRecursion (λ x. (taps Came x.side x.port && counts_came x)
           ≡ ((is_side side x.side && names l.vl x.bytes) && came_of x)) xs
       all [] = tt
       all (x ∷ xs) = (came-turned x, all xs)
@@ -347,13 +362,13 @@ module _ (t : Rows) (c : Choices) (lawful : IsLawfulSwitch t) (side : Side) (pla
       by true e rest = rw (same, e) (are.0.time, are.0.bytes, rest)
       by false e rest = rw (same, e) rest
 
-  tapped-all : (ds : List Leaving) → AllByRecursion (λ d. (c.taps Left d.side d.port && is_leaving l.vl side port d)
+  tapped-all : (ds : List Leaving) → AllByRecursion (λ d. (taps Left d.side d.port && is_leaving l.vl side port d)
       ≡ is_leaving l.vl side port d) ds
   tapped-all [] = tt
   tapped-all (d ∷ ds) = (by (is_leaving l.vl side port d) refl, tapped-all ds)
     where
-      by : (b : Bool) → is_leaving l.vl side port d ≡ b → (c.taps Left d.side d.port && b) ≡ b
-      by false e = and-false (c.taps Left d.side d.port)
+      by : (b : Bool) → is_leaving l.vl side port d ≡ b → (taps Left d.side d.port && b) ≡ b
+      by false e = and-false (taps Left d.side d.port)
       by true e =
           let parts = and_parts (is_side side d.side && (d.port == port)) (names l.vl d.frame.bytes) e in
           let at = and_parts (is_side side d.side) (d.port == port) parts.0 in
@@ -362,11 +377,11 @@ module _ (t : Rows) (c : Choices) (lawful : IsLawfulSwitch t) (side : Side) (pla
           rw (sym there, here, is.seen) refl
 
   pub gone-are : (left : List Leaving) (frames : List Frame)
-      → AreRecordsOf (filter (λ d. c.taps Left d.side d.port) left) (left_among frames)
+      → AreRecordsOf (filter (λ d. taps Left d.side d.port) left) (left_among frames)
       → AreGone (filter (is_leaving l.vl side port) left) (map gone_of (all_gone frames))
   gone-are left frames are =
       subst (λ (ds : List Leaving). AreGone ds (map gone_of (all_gone frames)))
-      (filter-twice (is_leaving l.vl side port) (λ d. c.taps Left d.side d.port) left
-      ∙ filter-same (λ d. c.taps Left d.side d.port && is_leaving l.vl side port d) (is_leaving l.vl side port) left
+      (filter-twice (is_leaving l.vl side port) (λ d. taps Left d.side d.port) left
+      ∙ filter-same (λ d. taps Left d.side d.port && is_leaving l.vl side port d) (is_leaving l.vl side port) left
       (tapped-all left))
-      (gone-here (filter (λ d. c.taps Left d.side d.port) left) (left_among frames) are)
+      (gone-here (filter (λ d. taps Left d.side d.port) left) (left_among frames) are)

@@ -7,11 +7,10 @@ use Rattle.std.specs.Option.{ForSome}
 use Rattle.afdx_config.specs.Lawful.{IsLawfulSwitch}
 use Rattle.afdx_config.specs.Rows.{Rows}
 use Rattle.afdx_frame.specs.declared.link.VlId.{VlId}
-use Rattle.afdx_input_lines.specs.declared.role.Role.TheVariants.{Came, Left}
+use Rattle.afdx_input_lines.specs.declared.role.Role.TheVariants.{Came}
 use Rattle.afdx_input_runs.specs.Joining.{Frame}
 use Rattle.afdx_police.specs.Arrival.{Arrival}
 use Rattle.afdx_law_bounds.specs.Outputs.{AreTimed}
-use Rattle.afdx_law_bounds.specs.Tables.{port_of}
 use Rattle.afdx_switch.proofs.ArrivalLemmas.{same-side}
 use Rattle.afdx_law_promises.specs.Lines.{Leaving, is_leaving}
 use Rattle.afdx_conform.specs.Explanations.{from_time}
@@ -22,12 +21,13 @@ use Rattle.afdx_conform.proofs.EveryLemmas.{every-map}
 use Rattle.afdx_command_conform.specs.Choices.{Choices, is_behind, is_same_link, latest_of, until_or}
 use Rattle.afdx_command_conform.specs.Frames.{frames_of, gone_of, terms_at}
 use Rattle.afdx_command_conform.specs.RunLaws.{AreByTime}
-use Rattle.afdx_command_conform.specs.Tapped.{is_of_came}
+use Rattle.afdx_command_conform.specs.Sight.{Sight}
+use Rattle.afdx_command_conform.specs.Tapped.{Taps, all_taps, is_of_came, of_tables}
 use Rattle.afdx_command_conform.specs.VerdictLaws.{SomeLeft}
 use Rattle.afdx_law_text.specs.Laws.{IsPlain}
 use Rattle.afdx_law_text.specs.Leaving.{LeavesAsPromised, LeaveAsPromised}
 use Rattle.afdx_law_text.specs.Recorded.{AreRecorded, came_among, left_among}
-use Rattle.afdx_law_text.proofs.FrameLemmas.{IsJudgedOf, all_gone, asks_of, frames-descend, gone-are, left_here, leaves_out, to-judged}
+use Rattle.afdx_law_text.proofs.FrameLemmas.{IsJudgedOf, all_gone, asks_of, frames-descend, gone-are, left_here, leaves_out, to-judged, with-same, with_taps}
 use Rattle.afdx_law_text.proofs.LeavingLemmas.{is_seen}
 use Rattle.afdx_law_text.proofs.ListLemmas.{Descend, filter-keeps, filter-whole}
 use Rattle.afdx_law_text.proofs.NumberLemmas.{numbered-as, same-go}
@@ -55,18 +55,26 @@ none-in : (vl : ℕ) (links : List (Option VlId)) → links ≡ []
 none-in vl links e = ap (λ (l : List (Option VlId)). list_any
     (λ link. is_same_link link (Some (record { 0 = vl }))) l) e
 
-module _ (t : Rows) (c : Choices) (lawful : IsLawfulSwitch t) (arrivals : List Arrival) (timed : AreTimed arrivals)
-    (d : Leaving) (more : List Leaving) (promised : LeaveAsPromised t arrivals (d ∷ more)) (frames : List Frame)
-    (recorded : AreRecorded c.taps arrivals (d ∷ more) frames) (plain : IsPlain c) where
+module _ (t : Rows) (base : Choices) (taps : Taps) (lawful : IsLawfulSwitch t) (arrivals : List Arrival)
+    (timed : AreTimed arrivals) (d : Leaving) (more : List Leaving)
+    (promised : LeaveAsPromised t arrivals (d ∷ more)) (frames : List Frame) (sees : base.sight ≡ of_tables t taps)
+    (recorded : AreRecorded taps arrivals (d ∷ more) frames) (plain : IsPlain t base) where
+  abbrev c : Choices
+  c = with_taps t taps base
+
   one : LeavesAsPromised t d
   one = promised.each.0
 
-  is : IsJudgedOf t c.taps d.side one.place d.port one.link
+  -- it is seen as if all ports were recorded
+  all-tapped : of_tables t taps ≡ of_tables t all_taps
+  all-tapped = sym sees ∙ plain.sight
+
+  is : IsJudgedOf t taps d.side one.place d.port one.link
   is = record {
     stands = one.stands;
     goes = one.goes;
-    heard = plain.taps Came d.side (port_of t one.link.from);
-    seen = plain.taps Left d.side d.port;
+    heard = ap (λ (o : Sight). o.is_heard d.side one.link) all-tapped;
+    seen = ap (λ (o : Sight). o.is_seen d.side d.port) all-tapped;
   }
 
   ended : ForSome c.until (λ end. latest_of frames ≡ end)
@@ -79,11 +87,11 @@ module _ (t : Rows) (c : Choices) (lawful : IsLawfulSwitch t) (arrivals : List A
   z = terms_at t c (latest_of frames) one.link d.port
 
   abbrev gone : List Gone
-  gone = map gone_of (all_gone t c lawful d.side one.place d.port one.link is frames)
+  gone = map gone_of (all_gone t base taps lawful d.side one.place d.port one.link is frames)
 
   abbrev seen : Gone → Bool
   seen y = is_seen z (λ n. is_behind n c.until) (later-ends c.until) (behind-end c.until (latest_of frames) ended)
-      (λ x. asks_of t c lawful d.side one.place d.port one.link is x) y
+      (λ x. asks_of t base taps lawful d.side one.place d.port one.link is x) y
 
   all-seen : (ys : List Gone) → AllByRecursion (λ y. seen y ≡ true) ys
   all-seen [] = tt
@@ -100,9 +108,9 @@ module _ (t : Rows) (c : Choices) (lawful : IsLawfulSwitch t) (arrivals : List A
   gone-known : AllByRecursion (λ (y : Gone). y.time ≤ latest_of frames) gone
   gone-known =
       every-map (λ (y : Gone). y.time ≤ latest_of frames) gone_of
-      (all_gone t c lawful d.side one.place d.port one.link is frames)
+      (all_gone t base taps lawful d.side one.place d.port one.link is frames)
       (filter-keeps (λ (y : Arrival). y.time ≤ latest_of frames)
-      (λ y. left_here t c lawful d.side one.place d.port one.link is y) (left_among frames)
+      (λ y. left_here t base taps lawful d.side one.place d.port one.link is y) (left_among frames)
       (every-map (λ (y : Arrival). y.time ≤ latest_of frames) (λ (x : Frame). x.arrival)
       (filter (λ x. not (is_of_came x.role)) frames)
       (filter-keeps (λ (x : Frame). x.arrival.time ≤ latest_of frames) (λ x. not (is_of_came x.role)) frames
@@ -119,10 +127,10 @@ module _ (t : Rows) (c : Choices) (lawful : IsLawfulSwitch t) (arrivals : List A
 
   uncut-all : uncut z (frames_of t c one.link.vl d.side d.port frames) ≡ gone
   uncut-all =
-      let these = numbered-as (λ x. c.taps Came x.side x.port) (λ x y h. rw (h.side, h.port) refl) arrivals
+      let these = numbered-as (λ x. taps Came x.side x.port) (λ x y h. rw (h.side, h.port) refl) arrivals
       (came_among frames)
       recorded.came_are in
-      ap (uncut z) (frames-seen t c (latest_of frames) lawful arrivals
+      ap (uncut z) (frames-seen t base taps (latest_of frames) lawful arrivals
       (d ∷ more) promised frames recorded ended these.numbered
       these.same
       (same-go arrivals these.numbered these.same
@@ -140,18 +148,21 @@ module _ (t : Rows) (c : Choices) (lawful : IsLawfulSwitch t) (arrivals : List A
   some-gone : 0 < length gone
   some-gone =
       let many = as-many (filter (is_leaving one.link.vl d.side d.port) (d ∷ more)) gone
-      (gone-are t c lawful d.side one.place d.port one.link is (d ∷ more) frames recorded.left_are) in
+      (gone-are t base taps lawful d.side one.place d.port one.link is (d ∷ more) frames recorded.left_are) in
       let some = some-told in
       omega (arith, many, some)
 
-  pub some-here : SomeLeft (t, c) frames
-  some-here = record {
+  some-left : SomeLeft (t, c) frames
+  some-left = record {
     side = d.side;
     place = one.place;
     port = d.port;
     link = one.link;
-    judged = to-judged t c.taps d.side one.place d.port one.link is.stands is.goes is.heard is.seen;
+    judged = to-judged t taps d.side one.place d.port one.link is.stands is.goes is.heard is.seen;
     some = subst (λ (n : ℕ). 0 < length (uncut (terms_at t c n one.link d.port)
         (frames_of t c one.link.vl d.side d.port frames))) (sym (ap (λ (o : Option ℕ). until_or o frames) plain.until))
         (subst (λ (ys : List Gone). 0 < length ys) (sym uncut-all) some-gone);
   }
+
+  pub some-here : SomeLeft (t, base) frames
+  some-here = subst (λ (k : Choices). SomeLeft (t, k) frames) (with-same t taps base sees) some-left

@@ -29,11 +29,11 @@ use Rattle.afdx_conform.proofs.EveryLemmas.{every-on, every-unmap}
 use Rattle.afdx_command_conform.specs.Choices.{Choices, is_behind, is_in_time, counts, counted}
 use Rattle.afdx_command_conform.specs.Frames.{arrivals_of, frames_of, gone_of, left_at, strangers_of, is_stranger, terms_at}
 use Rattle.afdx_command_conform.specs.RunLaws.{IsOfRight, AreOfRight}
-use Rattle.afdx_command_conform.specs.Tapped.{judged_to, is_damaged, is_of_came}
+use Rattle.afdx_command_conform.specs.Tapped.{Taps, of_tables, judged_to, is_damaged, is_of_came}
 use Rattle.afdx_law_text.specs.Leaving.{LeavesAsPromised, LeaveAsPromised}
 use Rattle.afdx_law_text.specs.Recorded.{AreRecorded, AreRecordsOf, AreSameArrivals, came_among, left_among}
 use Rattle.afdx_law_text.proofs.AskedLemmas.{ask, asks}
-use Rattle.afdx_law_text.proofs.FrameLemmas.{IsJudgedOf, judged-of, leaves_out, came-passed, left-passed, asks_of, came_of, arrivals-are, left_here, all_gone, frames-are, gone-are, left-descend, side-here, link-to-is, place-named-is}
+use Rattle.afdx_law_text.proofs.FrameLemmas.{IsJudgedOf, judged-of, leaves_out, came-passed, left-passed, asks_of, came_of, arrivals-are, left_here, all_gone, frames-are, gone-are, left-descend, side-here, link-to-is, place-named-is, with-same, with_taps}
 use Rattle.afdx_law_text.proofs.LeavingLemmas.{is_seen, stream-right}
 use Rattle.afdx_law_text.proofs.ListLemmas.{filter-same, filter-map, filter-none, filter-keeps, filter-passes, both-hold, Descend, descend-filter, descend-map, bool-cases, and-false}
 use Rattle.afdx_law_text.proofs.TimeLemmas.{accepted-shape, behind-end, frames-up, later-ends, own-go, short-frames, timed-go}
@@ -41,12 +41,15 @@ use Rattle.afdx_law_text.proofs.NumberLemmas.{numbered-as, same-accepted, same-f
 use Rattle.afdx_law_text.proofs.PromisedLemmas.{stream-frames}
 use Rattle.afdx_law_text.proofs.UndamagedLemmas.{all-undamaged, counted-none}
 
-module _ (t : Rows) (c : Choices) (until : ℕ) (lawful : IsLawfulSwitch t) (original : List Arrival)
+module _ (t : Rows) (base : Choices) (taps : Taps) (until : ℕ) (lawful : IsLawfulSwitch t) (original : List Arrival)
     (left : List Leaving) (promised : LeaveAsPromised t original left) (frames : List Frame)
-    (recorded : AreRecorded c.taps original left frames) (ended : ForSome c.until (λ end. until ≡ end))
+    (recorded : AreRecorded taps original left frames) (ended : ForSome base.until (λ end. until ≡ end))
     (arrivals : List Arrival) (same : AreSameArrivals original arrivals) (go : GoByTime arrivals)
-    (came : came_among frames ≡ filter (λ x. c.taps Came x.side x.port) arrivals) where
-  module _ (side : Side) (place port : ℕ) (l : LinkRow) (is : IsJudgedOf t c.taps side place port l) where
+    (came : came_among frames ≡ filter (λ x. taps Came x.side x.port) arrivals) where
+  abbrev c : Choices
+  c = with_taps t taps base
+
+  module _ (side : Side) (place port : ℕ) (l : LinkRow) (is : IsJudgedOf t taps side place port l) where
     abbrev z : Terms
     z = terms_at t c until l port
 
@@ -54,10 +57,10 @@ module _ (t : Rows) (c : Choices) (until : ℕ) (lawful : IsLawfulSwitch t) (ori
     ends n = is_behind n c.until
 
     abbrev asks_it : Arrival → Bool
-    asks_it x = asks_of t c lawful side place port l is x
+    asks_it x = asks_of t base taps lawful side place port l is x
 
     abbrev gone : List Gone
-    gone = map gone_of (all_gone t c lawful side place port l is frames)
+    gone = map gone_of (all_gone t base taps lawful side place port l is frames)
 
     bag-is : IsTrue (is_bag z.rule.bag_ms)
     unfolding rule_of
@@ -82,7 +85,7 @@ module _ (t : Rows) (c : Choices) (until : ℕ) (lawful : IsLawfulSwitch t) (ori
           let here : x.port ≡ port_of t l.from = sym shape.at_port ∙ rule-port in
           let longest = shape.longest in
           rw (
-            came-passed t c lawful side place port l is x parts.1,
+            came-passed t base taps lawful side place port l is x parts.1,
             stays,
             sym there,
             here,
@@ -102,12 +105,12 @@ module _ (t : Rows) (c : Choices) (until : ℕ) (lawful : IsLawfulSwitch t) (ori
           (same-accepted z.rule (own l.vl side original) (own l.vl side arrivals)
           (same-own l.vl side original arrivals same))
           (stream-frames t lawful side port place l is.stands is.goes z refl refl refl original left gone promised
-          (gone-are t c lawful side place port l is left frames recorded.left_are))
+          (gone-are t base taps lawful side place port l is left frames recorded.left_are))
 
       gone-descend : Descend (λ (y : Gone). y.time) gone
       gone-descend =
-          descend-map gone_of (λ (y : Gone). y.time) (all_gone t c lawful side place port l is frames)
-          (descend-filter (λ (x : Arrival). x.time) (λ x. left_here t c lawful side place port l is x)
+          descend-map gone_of (λ (y : Gone). y.time) (all_gone t base taps lawful side place port l is frames)
+          (descend-filter (λ (x : Arrival). x.time) (λ x. left_here t base taps lawful side place port l is x)
           (left_among frames)
           (left-descend frames recorded.by_time))
 
@@ -118,7 +121,7 @@ module _ (t : Rows) (c : Choices) (until : ℕ) (lawful : IsLawfulSwitch t) (ori
           (own-go (λ x. is_side side x.side && names l.vl x.bytes) arrivals go) gone-descend
           (harmless (own l.vl side arrivals) own-named) frames-of
 
-      one-seen : (y : Arrival) → left_here t c lawful side place port l is y ≡ true
+      one-seen : (y : Arrival) → left_here t base taps lawful side place port l is y ≡ true
           → nat_le (length y.bytes) most_bytes ≡ true
           → counts t c (record { role = Left; arrival = y })
           ≡ is_seen z ends (later-ends c.until) (behind-end c.until until ended) asks_it (gone_of y)
@@ -126,7 +129,7 @@ module _ (t : Rows) (c : Choices) (until : ℕ) (lawful : IsLawfulSwitch t) (ori
       one-seen y here short =
           let parts = and_parts (is_side y.side side && nat_eq y.port port) (names l.vl y.bytes) here in
           let at = and_parts (is_side y.side side) (nat_eq y.port port) parts.0 in
-          rw (left-passed t c lawful side place port l is y at.0 parts.1, stays, short)
+          rw (left-passed t base taps lawful side place port l is y at.0 parts.1, stays, short)
           (and-true (is_in_time c (record { role = Left; arrival = y })))
         where
           and-true : (b : Bool) → (b && true && true) ≡ b
@@ -134,7 +137,7 @@ module _ (t : Rows) (c : Choices) (until : ℕ) (lawful : IsLawfulSwitch t) (ori
           and-true false = refl
 
       all-seen : (ys : List Arrival)
-          → AllByRecursion (λ y. (left_here t c lawful side place port l is y ≡ true)
+          → AllByRecursion (λ y. (left_here t base taps lawful side place port l is y ≡ true)
           × (nat_le (length y.bytes) most_bytes ≡ true)) ys
           → AllByRecursion (λ y. counts t c (record { role = Left; arrival = y })
           ≡ is_seen z ends (later-ends c.until) (behind-end c.until until ended) asks_it (gone_of y)) ys
@@ -144,27 +147,27 @@ module _ (t : Rows) (c : Choices) (until : ℕ) (lawful : IsLawfulSwitch t) (ori
       pub frames-seen : frames_of t c l.vl side port frames
           ≡ filter (is_seen z ends (later-ends c.until) (behind-end c.until until ended) asks_it) gone
       frames-seen =
-          let ys = all_gone t c lawful side place port l is frames in
+          let ys = all_gone t base taps lawful side place port l is frames in
           let seen = is_seen z ends (later-ends c.until) (behind-end c.until until ended) asks_it in
           let short = every-unmap (λ (y : Gone). nat_le (length y.bytes) most_bytes ≡ true) gone_of ys
           (short-frames z (accepted_arrivals z.rule (own l.vl side arrivals)) gone
           (accepted-shape z.rule (own l.vl side arrivals)) frames-of) in
-          frames-are t c lawful side place port l is frames
+          frames-are t base taps lawful side place port l is frames
           ∙ ap (λ (l : List Arrival). map gone_of l)
           (filter-same (λ y. counts t c (record { role = Left; arrival = y })) (λ y. seen (gone_of y)) ys
-          (all-seen ys (both-hold (λ y. left_here t c lawful side place port l is y ≡ true)
+          (all-seen ys (both-hold (λ y. left_here t base taps lawful side place port l is y ≡ true)
           (λ y. nat_le (length y.bytes) most_bytes ≡ true) ys
-          (filter-passes (λ y. left_here t c lawful side place port l is y) (left_among frames)) short)))
+          (filter-passes (λ y. left_here t base taps lawful side place port l is y) (left_among frames)) short)))
           ∙ sym (filter-map seen gone_of ys)
 
       right-here : IsOfRight z (sound_of z.rule (arrivals_of t c l.vl side frames))
           (uncut z (frames_of t c l.vl side port frames))
       right-here = record {
         asked = asks z ends (later-ends c.until) asks_it (own l.vl side arrivals);
-        arrivals = asked-arrivals (sound_of z.rule (filter (came_of t c lawful side place port l is)
+        arrivals = asked-arrivals (sound_of z.rule (filter (came_of t base taps lawful side place port l is)
             (own l.vl side arrivals)))
             ∙ ap (λ (xs : List Arrival). sound_of z.rule xs)
-            (sym (arrivals-are t c lawful side place port l is arrivals frames came));
+            (sym (arrivals-are t base taps lawful side place port l is arrivals frames came));
         is_right = subst (λ (ys : List Gone). IsRight z (asks z ends (later-ends c.until) asks_it
             (own l.vl side arrivals))
             (uncut z ys)) (sym frames-seen)
@@ -183,12 +186,12 @@ module _ (t : Rows) (c : Choices) (until : ℕ) (lawful : IsLawfulSwitch t) (ori
     -- ---- the link is left out
     module _ (goes_out : leaves_out c l.vl ≡ true) where
       none-came : (xs : List Arrival) → AllByRecursion (λ x. (is_side side x.side && names l.vl x.bytes) ≡ true) xs
-          → AllByRecursion (λ x. came_of t c lawful side place port l is x ≡ false) xs
+          → AllByRecursion (λ x. came_of t base taps lawful side place port l is x ≡ false) xs
       none-came [] all = tt
       none-came (x ∷ xs) all =
           let parts = and_parts (is_side side x.side) (names l.vl x.bytes) all.0 in (
-            rw (came-passed t c lawful side place port l is x parts.1, goes_out)
-                (ends-false (is_in_time c (record { role = Came; arrival = x })) (c.taps Came x.side x.port)),
+            rw (came-passed t base taps lawful side place port l is x parts.1, goes_out)
+                (ends-false (is_in_time c (record { role = Came; arrival = x })) (taps Came x.side x.port)),
             none-came xs all.1,
           )
         where
@@ -197,14 +200,15 @@ module _ (t : Rows) (c : Choices) (until : ℕ) (lawful : IsLawfulSwitch t) (ori
           ends-false true false = refl
           ends-false false b = refl
 
-      none-left : (ys : List Arrival) → AllByRecursion (λ y. left_here t c lawful side place port l is y ≡ true) ys
+      none-left : (ys : List Arrival)
+          → AllByRecursion (λ y. left_here t base taps lawful side place port l is y ≡ true) ys
           → AllByRecursion (λ y. counts t c (record { role = Left; arrival = y }) ≡ false) ys
       unfolding counts
       none-left [] all = tt
       none-left (y ∷ ys) all =
           let parts = and_parts (is_side y.side side && nat_eq y.port port) (names l.vl y.bytes) all.0 in
           let at = and_parts (is_side y.side side) (nat_eq y.port port) parts.0 in (
-            rw (left-passed t c lawful side place port l is y at.0 parts.1, goes_out)
+            rw (left-passed t base taps lawful side place port l is y at.0 parts.1, goes_out)
                 (ends-false (is_in_time c (record { role = Left; arrival = y })) (nat_le (length y.bytes) most_bytes)),
             none-left ys all.1,
           )
@@ -214,17 +218,17 @@ module _ (t : Rows) (c : Choices) (until : ℕ) (lawful : IsLawfulSwitch t) (ori
           ends-false false b = refl
 
       no-arrivals : arrivals_of t c l.vl side frames ≡ []
-      no-arrivals = arrivals-are t c lawful side place port l is arrivals frames came
-          ∙ filter-none (came_of t c lawful side place port l is) (own l.vl side arrivals)
+      no-arrivals = arrivals-are t base taps lawful side place port l is arrivals frames came
+          ∙ filter-none (came_of t base taps lawful side place port l is) (own l.vl side arrivals)
           (none-came (own l.vl side arrivals) own-named)
 
       no-frames : frames_of t c l.vl side port frames ≡ []
       no-frames =
-          let ys = all_gone t c lawful side place port l is frames in
-          frames-are t c lawful side place port l is frames
+          let ys = all_gone t base taps lawful side place port l is frames in
+          frames-are t base taps lawful side place port l is frames
           ∙ ap (λ (l : List Arrival). map gone_of l)
           (filter-none (λ y. counts t c (record { role = Left; arrival = y })) ys
-          (none-left ys (filter-passes (λ y. left_here t c lawful side place port l is y) (left_among frames))))
+          (none-left ys (filter-passes (λ y. left_here t base taps lawful side place port l is y) (left_among frames))))
 
       nothing-there : AreTheirFrames z (accepted_arrivals z.rule []) []
       unfolding AreTheirFrames accepted_arrivals
@@ -255,11 +259,11 @@ module _ (t : Rows) (c : Choices) (until : ℕ) (lawful : IsLawfulSwitch t) (ori
             (sym no-frames) nothing-right;
       }
 
-  one-right : (side : Side) (place port : ℕ) (l : LinkRow) → judged_to t c.taps side place port ≡ Some l
+  one-right : (side : Side) (place port : ℕ) (l : LinkRow) → judged_to t (of_tables t taps) side place port ≡ Some l
       → IsOfRight (terms_at t c until l port) (sound_of (rule_of t l) (arrivals_of t c l.vl side frames))
       (uncut (terms_at t c until l port) (frames_of t c l.vl side port frames))
   one-right side place port l h =
-      let is = judged-of t c.taps side place port l h in
+      let is = judged-of t taps side place port l h in
       elim (bool-cases (leaves_out c l.vl)) [
         | inl out ↦ right-none side place port l is out
         | inr stays ↦ right-here side place port l is stays
@@ -269,10 +273,10 @@ module _ (t : Rows) (c : Choices) (until : ℕ) (lawful : IsLawfulSwitch t) (ori
 
   -- of one that left and counts
   abbrev IsOwn : Arrival → Type 0
-  IsOwn y = counts t c (record { role = Left; arrival = y }) ≡ true → is_stranger t c.taps y ≡ false
+  IsOwn y = counts t c (record { role = Left; arrival = y }) ≡ true → is_stranger t c.sight y ≡ false
 
   abbrev IsNotStrange : Side → ℕ → Frame → Type 0
-  IsNotStrange side port x = (left_at side port x && is_stranger t c.taps x.arrival) ≡ false
+  IsNotStrange side port x = (left_at side port x && is_stranger t c.sight x.arrival) ≡ false
 
   strange-none : (ds : List Leaving) (ys : List Arrival) → AllByRecursion (LeavesAsPromised t) ds
       → AllByRecursion (λ d. is_damaged d.frame.bytes ≡ false) ds → AreRecordsOf ds ys → AllByRecursion IsOwn ys
@@ -316,15 +320,15 @@ module _ (t : Rows) (c : Choices) (until : ℕ) (lawful : IsLawfulSwitch t) (ori
   no-strangers : (side : Side) (port : ℕ) → strangers_of t c side port frames ≡ []
   no-strangers side port =
       ap (λ (fs : List Frame). map (λ x. x.arrival) fs)
-      (filter-none (λ x. left_at side port x && is_stranger t c.taps x.arrival) (counted t c frames)
+      (filter-none (λ x. left_at side port x && is_stranger t c.sight x.arrival) (counted t c frames)
       (every-on (λ x. (counts t c x ≡ true → IsNotStrange side port x) × (counts t c x ≡ true)) (IsNotStrange side port)
       (λ x h. h.0 h.1) (counted t c frames)
       (both-hold (λ x. counts t c x ≡ true → IsNotStrange side port x) (λ x. counts t c x ≡ true) (counted t c frames)
       (filter-keeps (λ x. counts t c x ≡ true → IsNotStrange side port x) (counts t c) frames
       (strange-frames side port frames
-      (strange-none (filter (λ d. c.taps Left d.side d.port) left) (left_among frames)
-      (filter-keeps (LeavesAsPromised t) (λ d. c.taps Left d.side d.port) left promised.each)
-      (filter-keeps (λ d. is_damaged d.frame.bytes ≡ false) (λ d. c.taps Left d.side d.port) left
+      (strange-none (filter (λ d. taps Left d.side d.port) left) (left_among frames)
+      (filter-keeps (LeavesAsPromised t) (λ d. taps Left d.side d.port) left promised.each)
+      (filter-keeps (λ d. is_damaged d.frame.bytes ≡ false) (λ d. taps Left d.side d.port) left
       (all-undamaged t lawful original left promised)) recorded.left_are)))
       (filter-passes (counts t c) frames))))
 
@@ -335,12 +339,14 @@ module _ (t : Rows) (c : Choices) (until : ℕ) (lawful : IsLawfulSwitch t) (ori
     streams = λ side place port l h. one-right side place port l h;
   }
 
-pub are-right : (t : Rows) (c : Choices) (until : ℕ) → IsLawfulSwitch t → (arrivals : List Arrival) → AreTimed arrivals
-    → (left : List Leaving) → LeaveAsPromised t arrivals left → (frames : List Frame)
-    → AreRecorded c.taps arrivals left frames → ForSome c.until (λ end. until ≡ end) → AreOfRight t c until frames
-are-right t c until lawful arrivals timed left promised frames recorded ended =
-    let these = numbered-as (λ x. c.taps Came x.side x.port) (λ x y h. rw (h.side, h.port) refl) arrivals
+pub are-right : (t : Rows) (c : Choices) (taps : Taps) (until : ℕ) → IsLawfulSwitch t → (arrivals : List Arrival)
+    → AreTimed arrivals → (left : List Leaving) → LeaveAsPromised t arrivals left → (frames : List Frame)
+    → c.sight ≡ of_tables t taps → AreRecorded taps arrivals left frames → ForSome c.until (λ end. until ≡ end)
+    → AreOfRight t c until frames
+are-right t c taps until lawful arrivals timed left promised frames sees recorded ended =
+    let these = numbered-as (λ x. taps Came x.side x.port) (λ x y h. rw (h.side, h.port) refl) arrivals
     (came_among frames)
     recorded.came_are in
-    all-right t c until lawful arrivals left promised frames recorded ended these.numbered these.same
-    (same-go arrivals these.numbered these.same (timed-go arrivals timed)) these.kept
+    subst (λ (k : Choices). AreOfRight t k until frames) (with-same t taps c sees)
+    (all-right t c taps until lawful arrivals left promised frames recorded ended these.numbered these.same
+    (same-go arrivals these.numbered these.same (timed-go arrivals timed)) these.kept)

@@ -125,15 +125,15 @@ or-true false = refl
 pub counted-none : (t : Rows) (c : Choices) (y : Arrival) (place : ℕ) (l : LinkRow) → place_named t y.bytes ≡ Some place
     → link_to t place y.port ≡ Some l → is_damaged y.bytes ≡ false → counts t c (record { role = Left; arrival = y })
     ≡ true
-    → is_stranger t c.taps y ≡ false
-counted-none t c y place l named to whole counted = by (is_heard_at t c.taps y.side (Some place)) refl
+    → is_stranger t c.sight y ≡ false
+counted-none t c y place l named to whole counted = by (is_heard_at t c.sight y.side (Some place)) refl
   where
-    by : (h : Bool) → is_heard_at t c.taps y.side (Some place) ≡ h → is_stranger t c.taps y ≡ false
-    by true e = stranger-no t c.taps y place l named to e
+    by : (h : Bool) → is_heard_at t c.sight y.side (Some place) ≡ h → is_stranger t c.sight y ≡ false
+    by true e = stranger-no t c.sight y place l named to e
     by false e =
         let x : Frame = record { role = Left; arrival = y } in
         let passed : is_passed t c x ≡ true = ap (λ v. is_left_out c x || v)
-        (unheard-is t c.taps x false true false refl
-        (ap (λ o. is_heard_at t c.taps y.side o) named ∙ e) (goes-named t y (Some place) named ∙ ap is_some to) whole)
+        (unheard-is t c.sight x false true false refl
+        (ap (λ o. is_heard_at t c.sight y.side o) named ∙ e) (goes-named t y (Some place) named ∙ ap is_some to) whole)
         ∙ or-true (is_left_out c x) in
         absurd (true≢false (sym counted ∙ out-of-choice t c x passed))

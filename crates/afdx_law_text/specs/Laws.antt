@@ -1,13 +1,11 @@
 -- What a replay tells conforms. Lists have the newest first.
-use Rattle.std.specs.Prelude.{◌≡◌, ℕ, ◌<◌, true, false, None, List, [], length}
+use Rattle.std.specs.Prelude.{◌≡◌, ℕ, ◌<◌, false, None, List, [], length}
 use Rattle.std.specs.Option.{ForSome}
-use Rattle.afdx_frame.specs.declared.link.Side.{Side}
 use Rattle.afdx_config.specs.Lawful.{IsLawfulSwitch}
 use Rattle.afdx_config.specs.Rows.{Rows}
 use Rattle.afdx_config.specs.Switches.{NamedRows}
 use Rattle.afdx_conform.specs.Leeways.{IsLeeway}
 use Rattle.afdx_input_runs.specs.Joining.{Frame}
-use Rattle.afdx_input_lines.specs.declared.role.Role.{Role}
 use Rattle.afdx_police.specs.Arrival.{Arrival}
 use Rattle.afdx_law_bounds.specs.Outputs.{AreTimed}
 use Rattle.afdx_switch.specs.Admitted.{IsAdmittedRun}
@@ -23,7 +21,7 @@ use Rattle.afdx_command_conform.specs.Choices.{Choices, until_or}
 use Rattle.afdx_command_conform.specs.Lines.{AreLines}
 use Rattle.afdx_command_conform.specs.Lines.{Due}
 use Rattle.afdx_command_conform.specs.RunLaws.{AreOfRight, IsExactBy, NothingIsFound}
-use Rattle.afdx_command_conform.specs.Tapped.{all_taps}
+use Rattle.afdx_command_conform.specs.Tapped.{Taps, all_taps, of_tables}
 use Rattle.afdx_command_conform.specs.VerdictLaws.{IsExercised, SomeLeft, answered}
 use Rattle.afdx_law_text.specs.Leaving.{LeaveAsPromised}
 use Rattle.afdx_law_text.specs.Recorded.{AreRecorded, AreRecordsOf, AreSameArrivals, LeaveInOrder, both_lists}
@@ -37,26 +35,30 @@ ToldLeaveAsPromised =
     KeepsPromises t arrivals lines →
     LeaveAsPromised t arrivals (left_in lines)
 
--- what is recorded of a switch whose frames leave as promised is that of a right switch, whatever
--- is asked: leeway, start, end, links that are left out, and recorded ports
+-- what is recorded of a switch whose frames leave as promised is that of a right switch by its
+-- tables, whatever is asked: leeway, start, end, links that are left out, and recorded ports
 abbrev pub PromisedIsRight : Type 0
 PromisedIsRight =
-    (t : Rows) (c : Choices) (until : ℕ) (arrivals : List Arrival) (left : List Leaving)
-    (frames : List Frame) →
+    (t : Rows) (c : Choices) (taps : Taps) (until : ℕ) (arrivals : List Arrival)
+    (left : List Leaving) (frames : List Frame) →
     IsLawfulSwitch t →
     AreTimed arrivals →
     LeaveAsPromised t arrivals left →
-    AreRecorded c.taps arrivals left frames →
+    c.sight ≡ of_tables t taps →
+    AreRecorded taps arrivals left frames →
     ForSome c.until (λ end. until ≡ end) →
     AreOfRight t c until frames
 
 -- ---- so it conforms
 
--- what is asked of a recording of arrivals and of these frames that left, and the lines of it
+-- what is asked, by the tables and the ports that were recorded, of a recording of arrivals and of
+-- these frames that left, and the lines of it
 pub record AreLinesOf (t : Rows) (c : Choices) (arrivals : List Arrival) (left : List Leaving)
     (frames : List Frame) (lines : List Due) : Type 0 where
   pub leeway : IsLeeway c.by
-  pub recorded : AreRecorded c.taps arrivals left frames
+  pub taps : Taps
+  pub sees : c.sight ≡ of_tables t taps
+  pub recorded : AreRecorded taps arrivals left frames
   pub are_lines : AreLines t c (until_or c.until frames) frames lines
 
 -- no line is a finding
@@ -102,17 +104,17 @@ ReplaysConformExactly =
 
 -- stamps and clocks are exact, the switch was reset before, and nothing is passed over: neither
 -- what came or left before or behind some time, nor a link, nor a port; idle streams don't matter
-pub record IsPlain (c : Choices) : Type 0 where
+pub record IsPlain (t : Rows) (c : Choices) : Type 0 where
   pub exact : IsExactBy c.by
   pub until : c.until ≡ None
   pub left_out : c.left_out ≡ []
-  pub taps : (role : Role) (side : Side) (port : ℕ) → c.taps role side port ≡ true
+  pub sight : c.sight ≡ of_tables t all_taps
   pub exercised : c.exercised ≡ false
 
 -- then it conforms, if a frame left; whatever is asked, it never deviates
 pub record IsAnswered (t : Rows) (c : Choices) (left : List Leaving) (frames : List Frame)
     (lines : List Due) : Type 0 where
-  pub plain : IsPlain c → 0 < length left → answered (t, c) frames lines ≡ Conforms
+  pub plain : IsPlain t c → 0 < length left → answered (t, c) frames lines ≡ Conforms
   pub exact : IsExactBy c.by → SomeLeft (t, c) frames → IsExercised (t, c) frames lines →
       answered (t, c) frames lines ≡ Conforms
   pub never : (findings : ℕ) → answered (t, c) frames lines ≡ Deviates findings → ⊥

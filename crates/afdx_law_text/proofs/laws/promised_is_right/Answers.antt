@@ -6,5 +6,5 @@ pub returns-clause-leave : goal.returns-clause-leave
 returns-clause-leave c = kept-leave
 
 pub returns-clause-right : goal.returns-clause-right
-returns-clause-right c = λ t c until arrivals left frames lawful timed promised recorded ended.
-    are-right t c until lawful arrivals timed left promised frames recorded ended
+returns-clause-right c = λ t c taps until arrivals left frames lawful timed promised sees recorded ended.
+    are-right t c taps until lawful arrivals timed left promised frames sees recorded ended
