@@ -111,7 +111,8 @@ given-came t sight k fs a place l lawful named at known heard = by k.link known
         (λ e. let parts = three-parts (is_side a.side k.side) (nat_eq place p) among e in
         let side = same-side a.side k.side parts.0 in
         let row = same-row t place p l m parts.1 at (link-to t p k.port m to).at in
-        let hears : is_heard t sight k.side m ≡ true = subst (λ (r : LinkRow). is_heard t sight k.side r ≡ true) (sym row)
+        let hears : is_heard t sight k.side m ≡ true = subst (λ (r : LinkRow). is_heard t sight k.side r ≡ true)
+        (sym row)
         (subst (λ d. is_heard t sight d l ≡ true) side heard) in
         let sees : sight.is_seen k.side k.port ≡ true = subst (λ d. sight.is_seen d k.port ≡ true) side
         (any-kept (sight.is_seen a.side) k.port (map (port_of t) l.to) parts.2) in

@@ -265,7 +265,8 @@ more-found n more old new before here = omega (arith, before, here)
 -- without more findings
 pub no-more : (k : Rows × Choices) (frames : List Frame) (dues : List Due)
     → totals_and 0 k frames dues ≡ totals_of k frames dues
-no-more k frames dues = ap (λ (n : ℕ). totals_with n (left_out_of k.0 k.1 frames) (unseen_of k.0 k.1.sight) k.1.exercised
+no-more k frames dues = ap (λ (n : ℕ). totals_with n (left_out_of k.0 k.1 frames) (unseen_of k.0 k.1.sight)
+    k.1.exercised
     (counted_of k.0 k.1 (until_or k.1.until frames) frames)) (omega arith)
 
 pub totals-are : (more : ℕ) (k : Rows × Choices) (frames : List Frame) (dues : List Due) (totals : Totals)

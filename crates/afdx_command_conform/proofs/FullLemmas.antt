@@ -118,7 +118,8 @@ stand-skipped t c until time x frames dues s none stand = record {
 }
   where
     same : (k : Key) → given_of t c (x ∷ frames) k ≡ given_of t c frames k
-    same k = given-from t c (x ∷ frames) k ∙ ap (λ fs. given_from t c.sight k fs k.link) (counted-less t c x frames none)
+    same k = given-from t c (x ∷ frames) k ∙ ap (λ fs. given_from t c.sight k fs k.link)
+        (counted-less t c x frames none)
         ∙ sym (given-from t c frames k)
 
 -- ---- lines

@@ -222,7 +222,8 @@ module _ (t : Rows) (c : Choices) (frames : List Frame) (time : ℕ)
       by-link None = tt
       by-link (Some l) = tt
 
-      by : (o : Option ℕ) → AllByRecursion (λ d. d.moment ≤ time) (given_from t c.sight k (counted t c frames) o).strange
+      by : (o : Option ℕ) → AllByRecursion (λ d. d.moment ≤ time)
+          (given_from t c.sight k (counted t c frames) o).strange
       by None = all-map (λ d. d.moment ≤ time) (stranger_due t k)
           (map (λ x. x.arrival) (filter (λ x. left_at k.side k.port x && is_stranger t c.sight x.arrival)
           (counted t c frames)))

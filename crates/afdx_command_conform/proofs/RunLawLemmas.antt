@@ -154,7 +154,8 @@ module _ (t : Rows) (c : Choices) (until : ℕ) (frames : List Frame) (lines : L
     explains = e;
     windows = what_passed (terms_at t c until l port) (sound_at t c until frames l side)
         (uncut_at t c until frames l side port)
-        (sound-by-time (c.sight.rule l) (arrivals_of t c l.vl side frames) (arrivals-by-time t c frames order l.vl side))
+        (sound-by-time (c.sight.rule l) (arrivals_of t c l.vl side frames)
+        (arrivals-by-time t c frames order l.vl side))
         e;
   }
 

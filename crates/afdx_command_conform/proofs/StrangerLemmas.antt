@@ -32,7 +32,8 @@ or-true : (b : Bool) → (b || true) ≡ true
 or-true true = refl
 or-true false = refl
 
-pub stranger-no : (t : Rows) (sight : Sight) (a : Arrival) (place : ℕ) (l : LinkRow) → place_named t a.bytes ≡ Some place
+pub stranger-no : (t : Rows) (sight : Sight) (a : Arrival) (place : ℕ) (l : LinkRow) → place_named t a.bytes ≡
+    Some place
     → link_to t place a.port ≡ Some l → is_heard_at t sight a.side (Some place) ≡ true → is_stranger t sight a ≡ false
 unfolding is_stranger
 stranger-no t sight a place l named to heard =

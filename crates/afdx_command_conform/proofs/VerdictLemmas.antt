@@ -243,7 +243,8 @@ exact_conforms k frames lines exact bags run =
 pub never_deviates : RightNeverDeviates
 never_deviates k frames lines findings drift bags run right h =
     never-deviates (totals_of k frames lines) findings
-    (zero-found k frames lines run (right_conforms k.0 k.1 (end_of k frames) frames lines run.lawful bags run.by_time drift
+    (zero-found k frames lines run (right_conforms k.0 k.1 (end_of k frames) frames lines run.lawful bags
+    run.by_time drift
     run.are_lines right)) h
 
 -- ---- what is written

@@ -26,12 +26,13 @@ fn count_at(tables: &Tables, taps: &Taps, kept: &KeptByKey, outlet: Outlet, tota
     ensures left_out { totals.new.left_out ≡ totals.old.left_out }
     ensures unseen { totals.new.unseen ≡ totals.old.unseen }
     ensures exercised { totals.new.is_exercised ≡ totals.old.is_exercised }
-    ensures counted { (c : Choices) (until : ℕ) (frames : List Seen) (n : Counted) (l : LinkRow) →
-        slice_get tables.now.links outlet.link ≡ Some l → is_to outlet.system.0 l ≡ true →
-        sight_in tables.now taps.now ≡ c.sight → AreEnded tables.now c until frames kept.now →
+    ensures counted { let t = tables.now in
+        (c : Choices) (until : ℕ) (frames : List Seen) (n : Counted) (l : LinkRow) →
+        slice_get t.links outlet.link ≡ Some l → is_to outlet.system.0 l ≡ true →
+        sight_in t taps.now ≡ c.sight → AreEnded t c until frames kept.now →
         HasCounted n totals.old →
-        HasCounted (both_counted n (counted_at tables.now c until frames outlet.side l
-        (port_of tables.now outlet.system.0))) totals.new }
+        HasCounted (both_counted n (counted_at t c until frames outlet.side l
+        (port_of t outlet.system.0))) totals.new }
 {
     if is_judged(tables, taps, outlet) {
         kept.count(key_at(tables, outlet), totals);

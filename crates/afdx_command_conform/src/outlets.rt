@@ -20,8 +20,8 @@ use afdx_input_sources::Taps;
 use afdx_police::LinkRule;
 use std::alloc::Global;
 
-/// By what a stream is judged: the tables, which ports were recorded, and how much stamps and clocks
-/// may be off.
+/// By what a stream is judged: the tables, which ports were recorded, and how much stamps and
+/// clocks may be off.
 #[derive(Clone, Copy)]
 pub(crate) struct StreamRules<'a> {
     pub(crate) tables: &'a Tables,

@@ -18,7 +18,8 @@ use afdx_input_sources::Taps;
 /// Whether the port at which a link comes in is recorded on a side.
 pub(crate) fn is_heard(tables: &Tables, taps: &Taps, side: Side, link: usize) -> bool
     requires link { link < length tables.now.links }
-    ensures at { result ≡ spec.is_heard_at tables.now (sight_in tables.now taps.now) side (Some link) }
+    ensures at { result
+        ≡ spec.is_heard_at tables.now (sight_in tables.now taps.now) side (Some link) }
     ensures is { (l : LinkRow) → slice_get tables.now.links link ≡ Some l →
         result ≡ spec.is_heard tables.now (sight_in tables.now taps.now) side l }
 {
@@ -113,7 +114,8 @@ fn unseen_to(tables: &Tables, taps: &Taps, side: Side, link: usize) -> u64
 
 /// How many aren't of any link.
 fn unseen_on(tables: &Tables, taps: &Taps, side: Side) -> u64
-    ensures count { result ≡ spec.unseen_among tables.now (sight_in tables.now taps.now) side tables.now.links }
+    ensures count { result
+        ≡ spec.unseen_among tables.now (sight_in tables.now taps.now) side tables.now.links }
     ensures few { result ≤ 98_304 }
 {
     let mut count: u64 = 0;

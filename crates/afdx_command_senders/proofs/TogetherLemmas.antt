@@ -78,7 +78,8 @@ none-told (x ∷ past) says none =
 -- ---- both together
 
 module _ (o : Outlook) (a : Asked) (taps : Taps) (c : Choices) (z : Setup) (sent frames : List Frame)
-    (told : List Line) (dues : List Due) (test : IsExactTest o a) (sees : c.sight ≡ of_tables o.tables taps) (leeway : c.by ≡ a.run.by)
+    (told : List Line) (dues : List Due) (test : IsExactTest o a) (sees : c.sight ≡ of_tables o.tables taps)
+    (leeway : c.by ≡ a.run.by)
     (same : came_in a sent ≡ came_until c.until frames) (senders : SendersFindNothing o a z sent told)
     (switch : SwitchFindsNothing o.tables c frames dues) where
   abbrev whole : Setup

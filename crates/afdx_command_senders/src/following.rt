@@ -30,7 +30,8 @@ fn apart_of(
     requires { place < length outlook.now.tables.now.links }
     ensures { (n : ℕ) (taps : Tapped) (z : Setup) (l : LinkRow) →
         slice_get outlook.now.tables.now.links place ≡ Some l →
-        IsSettingBelow n (outlook_of outlook.now) (asked_of outlook.now.tables.now taps asked.now) z →
+        IsSettingBelow n (outlook_of outlook.now)
+        (asked_of outlook.now.tables.now taps asked.now) z →
         IfOk result (IsApart (terms_at z.tables z.recorded z.asked place l)) }
 {
     if let Some(ns) = asked.apart {

@@ -80,7 +80,8 @@ impl<'a> SendersRun<'a> {
         taps: &Taps,
     ) -> Result<SendersRun<'a>, AllocError>
         ensures { let a = asked_of outlook.entry.tables.now (taps_in taps.now) asked.entry in
-            IfOk result (λ run. (z : Setup) × IsSetting (outlook_of outlook.entry) a z × IsNewRun (z, a) run) }
+            IfOk result (λ run. (z : Setup) × IsSetting (outlook_of outlook.entry) a z
+            × IsNewRun (z, a) run) }
     {
         let senders = senders_of(alloc, outlook, &asked, recorded_ports(taps))?;
         Ok(SendersRun {

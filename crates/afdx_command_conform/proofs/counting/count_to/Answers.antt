@@ -43,7 +43,8 @@ loop-rank-preserved c = record {
       subst (λ m. HasCounted m c.count_at.new.totals)
       (both-assoc n before (counted_at t c' until frames side row (port_of t s))
       ∙ ap (λ m. both_counted n m) (sym (to-next t c' until frames side row rank s is lt)))
-      (c.count_at.ensures.counted c' until frames (both_counted n before) row at (any-in row.to rank s is lt) sight ended
+      (c.count_at.ensures.counted c' until frames (both_counted n before) row at (any-in row.to rank s is lt)
+      sight ended
       (c.loop-rank.invariant.counted c' until frames n row at sight ended has));
 }
 

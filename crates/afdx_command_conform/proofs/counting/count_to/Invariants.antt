@@ -14,7 +14,8 @@ invariant-loop-rank l = record {
   unseen : l.totals.unseen ≡ l.fn.totals.unseen;
   exercised : l.totals.is_exercised ≡ l.fn.totals.is_exercised;
   counted : (c : Choices) (until : ℕ) (frames : List Frame) (n : Counted) (row : LinkRow)
-      → slice_get l.tables.links l.link ≡ Some row → sight_in l.tables l.taps ≡ c.sight → AreEnded l.tables c until frames l.kept
+      → slice_get l.tables.links l.link ≡ Some row → sight_in l.tables l.taps ≡ c.sight → AreEnded l.tables c
+      until frames l.kept
       → HasCounted n l.fn.totals
       → HasCounted (both_counted n (counted_to l.tables c until frames l.side row (take l.rank row.to))) l.totals;
 }

@@ -14,7 +14,8 @@ returns-clause-stands c c' until time port l at there ruled =
     let row : LinkRow = link_row c.link.result.now in
     let is : row ≡ l = same_Some row l (sym c.link.ensures.row ∙ at) in
     let here = slice_get-get_or t.systems s no-system c.requires.system in
-    c.new.ensures.stands (terms_at t c' until l port) time (ap (λ (o : Sight). o.rule l) (sym ruled.sight) ∙ sym (c.rule_at-rule.ensures l at))
+    c.new.ensures.stands (terms_at t c' until l port) time
+    (ap (λ (o : Sight). o.rule l) (sym ruled.sight) ∙ sym (c.rule_at-rule.ensures l at))
     (ap (λ (o : Sight). o.latency_ns l port) (sym ruled.sight)
     ∙ ap (λ (x : LinkRow). 1000 * x.latency_us) (sym is))
     (ap (λ (o : Sight). o.byte_ns l port) (sym ruled.sight)

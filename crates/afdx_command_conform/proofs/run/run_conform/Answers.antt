@@ -23,7 +23,11 @@ use Rattle.afdx_command_conform.proofs.run.run_conform.Goals as goal
 pub returns-in_err-judging-clause-answer : goal.returns-in_err-judging-clause-answer
 returns-in_err-judging-clause-answer g c =
     let old = g.O.Sink.written c.args.output.now in
-    let k : Rows × Choices = (c.args.tables.now, choices_of (of_tables c.args.tables.now (g.P.Tapping.tapped c.args.options)) c.args.choices.now)
+    let k : Rows × Choices = (
+      c.args.tables.now,
+      choices_of
+          (of_tables c.args.tables.now (g.P.Tapping.tapped c.args.options)) c.args.choices.now,
+    )
     in
     let e : c.from_residual.result ≡ Err run.Memory = search rules in
     rw e (where-known (g.A.RunInput.known c.args.inputs.now) _ (λ bytes known. answers-memory
@@ -43,7 +47,11 @@ pub returns-clause-answer : goal.returns-clause-answer
 returns-clause-answer g c =
     let old = g.O.Sink.written c.args.output.now in
     let new = g.O.Sink.written c.run_judged.new.output in
-    let k : Rows × Choices = (c.args.tables.now, choices_of (of_tables c.args.tables.now (g.P.Tapping.tapped c.args.options)) c.args.choices.now)
+    let k : Rows × Choices = (
+      c.args.tables.now,
+      choices_of
+          (of_tables c.args.tables.now (g.P.Tapping.tapped c.args.options)) c.args.choices.now,
+    )
     in
     let j = c.run_judged.new.judge in
     if-some (λ bytes h. run-answers
@@ -56,5 +64,6 @@ returns-clause-answer g c =
     c.run_judged.result h)
     (g.A.RunInput.known c.args.inputs.now)
     (c.run_judged.ensures.answer k
-    (subst (λ p. TellsItems (c.args.tables.now, choices_of (of_tables c.args.tables.now p) c.args.choices.now) c.in_ok-judging.judging old old [])
+    (subst (λ p. TellsItems (c.args.tables.now, choices_of (of_tables c.args.tables.now p) c.args.choices.now)
+    c.in_ok-judging.judging old old [])
     c.taps-taps.ensures (tells-none _ _ old c.in_ok-judging.ensures)) (λ item. tt))

@@ -27,5 +27,6 @@ returns-else-is_heard-clause-strange c x side port named =
 
 pub returns-in-None-clause-strange : goal.returns-in-None-clause-strange
 returns-in-None-clause-strange c x side port named =
-    sym (stranger-none c.args.tables.now (sight_in c.args.tables.now c.args.taps.now) x c.args.port c.args.named port (sym named)
+    sym (stranger-none c.args.tables.now (sight_in c.args.tables.now c.args.taps.now) x c.args.port c.args.named
+    port (sym named)
     c.in-None.ensures.none)

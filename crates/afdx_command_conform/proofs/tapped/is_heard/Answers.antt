@@ -15,7 +15,8 @@ returns-clause-is c l at =
     let sight = sight_in c.args.tables.now c.args.taps.now in
     let row = link_row c.link.result.now in
     c.is_tapped.ensures
-    ∙ ap (λ p. taps_in c.args.taps.now Came c.args.side p) (sym (port-is t row.from (system_row c.system.result.now) c.system.ensures.row))
+    ∙ ap (λ p. taps_in c.args.taps.now Came c.args.side p)
+    (sym (port-is t row.from (system_row c.system.result.now) c.system.ensures.row))
     ∙ ap (λ (r : LinkRow). is_heard t sight c.args.side r) (same_Some row l (sym c.link.ensures.row ∙ at))
 
 pub returns-clause-at : goal.returns-clause-at
@@ -24,5 +25,6 @@ returns-clause-at c =
     let sight = sight_in c.args.tables.now c.args.taps.now in
     let row = link_row c.link.result.now in
     c.is_tapped.ensures
-    ∙ ap (λ p. taps_in c.args.taps.now Came c.args.side p) (sym (port-is t row.from (system_row c.system.result.now) c.system.ensures.row))
+    ∙ ap (λ p. taps_in c.args.taps.now Came c.args.side p)
+    (sym (port-is t row.from (system_row c.system.result.now) c.system.ensures.row))
     ∙ sym (ap (λ o. option_map_or (is_heard t sight c.args.side) o true) c.link.ensures.row)

@@ -25,7 +25,8 @@ loop-link-preserved c =
       count =
           let before = c.loop-link.invariant.count in
           let here = c.unseen_to-count.ensures.count l at in
-          let next = among-next c.args.tables.now (sight_in c.args.tables.now c.args.taps.now) c.args.side links link l at in
+          let next = among-next c.args.tables.now (sight_in c.args.tables.now c.args.taps.now) c.args.side links
+          link l at in
           omega (arith, before, here, next);
       few = let before = c.loop-link.invariant.few in let here = c.unseen_to-count.ensures.few in
           omega (arith, before, here);

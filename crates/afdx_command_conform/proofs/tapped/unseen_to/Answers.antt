@@ -26,7 +26,8 @@ loop-rank-preserved c = record {
       let len = c.len-rank-end.ensures in
       let lt : rank < length row.to = subst (λ (r : LinkRow). rank < length r.to) mine
       (omega (arith, test, len, count)) in
-      let next = unseen-next c.args.tables.now (sight_in c.args.tables.now c.args.taps.now) c.args.side row rank c.receiver-system.result.0
+      let next = unseen-next c.args.tables.now (sight_in c.args.tables.now c.args.taps.now) c.args.side row rank
+      c.receiver-system.result.0
       (c.receiver-system.ensures.is row at) lt in
       omega (arith, before, here, next);
   few = let before = c.loop-rank.invariant.few in let here = c.unseen_at-count.ensures.few in

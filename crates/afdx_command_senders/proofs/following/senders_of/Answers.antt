@@ -14,7 +14,8 @@ pub loop-place-init : goal.loop-place-init
 loop-place-init c = record {
   judged = λ taps is. (
     _,
-    none-below (outlook_of c.args.outlook) (asked_of c.args.outlook.tables.now taps c.args.asked.now) (recorded_in c.args.recorded) is,
+    none-below (outlook_of c.args.outlook) (asked_of c.args.outlook.tables.now taps c.args.asked.now)
+        (recorded_in c.args.recorded) is,
     λ until before. c.in_ok-senders.ensures.nothing _ before,
   );
 }
@@ -88,5 +89,9 @@ returns c = λ taps is.
       c.loop-place.auto.place-end,
       c.link_count-place-end.ensures.count,
     ) in
-    let o = outlook_of c.args.outlook in
-    (past.0, all-below o (asked_of c.args.outlook.tables.now taps c.args.asked.now) c.loop-place.place past.0 all past.1, past.2)
+    let o = outlook_of c.args.outlook in (
+      past.0,
+      all-below o (asked_of c.args.outlook.tables.now taps c.args.asked.now) c.loop-place.place past.0 all
+          past.1,
+      past.2,
+    )

@@ -46,7 +46,8 @@ pub run_judged-requires-clause-ready : goal.run_judged-requires-clause-ready
 run_judged-requires-clause-ready g c =
     let new = c.in_ok-judging.ensures in (
       (new.0, asked_of c.args.outlook.tables.now (taps_in c.taps-taps.result) c.args.asked),
-      new-tells (new.0, asked_of c.args.outlook.tables.now (taps_in c.taps-taps.result) c.args.asked) _ (g.O.Sink.written c.args.output.now)
+      new-tells (new.0, asked_of c.args.outlook.tables.now (taps_in c.taps-taps.result) c.args.asked) _
+          (g.O.Sink.written c.args.output.now)
           new.2,
       λ item. tt,
     )

@@ -9,13 +9,16 @@ use Rattle.afdx_command_conform.proofs.judging.JudgingRun.new.Goals as goal
 pub returns : goal.returns
 returns c = record {
   works = works-none (c.args.tables.now, choices_of (sight_in c.args.tables.now c.args.taps.now) c.args.choices.now) _
-      (c.in_ok-streams.ensures.stands (choices_of (sight_in c.args.tables.now c.args.taps.now) c.args.choices.now) 0 refl refl).tables
+      (c.in_ok-streams.ensures.stands (choices_of (sight_in c.args.tables.now c.args.taps.now) c.args.choices.now)
+      0 refl refl).tables
       (ap (λ p. choices_of p c.args.choices.now)
-      (c.in_ok-streams.ensures.stands (choices_of (sight_in c.args.tables.now c.args.taps.now) c.args.choices.now) 0 refl refl).sight)
+      (c.in_ok-streams.ensures.stands (choices_of (sight_in c.args.tables.now c.args.taps.now) c.args.choices.now)
+      0 refl refl).sight)
       refl refl refl;
   stands = record {
     all = λ until may. record {
-      streams = c.in_ok-streams.ensures.stands (choices_of (sight_in c.args.tables.now c.args.taps.now) c.args.choices.now) until refl
+      streams = c.in_ok-streams.ensures.stands (choices_of (sight_in c.args.tables.now c.args.taps.now)
+          c.args.choices.now) until refl
           refl;
       early = λ e. tt;
     };

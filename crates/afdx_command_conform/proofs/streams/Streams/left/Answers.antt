@@ -38,7 +38,8 @@ returns-then-not-is_tapped-clause-stands c t c' until time frames lines named-is
     let at = slice_get-get_or r.links link blank c.in-Some.ensures.link.1 in
     let to = c.in-Some.ensures.to l at in
     let own : is_stranger r c'.sight a ≡ false =
-    subst (λ (p : Sight). is_stranger r p a ≡ false) stand.sight (sym (c.in-Some.ensures.strange a refl refl named-is)) in
+    subst (λ (p : Sight). is_stranger r p a ≡ false) stand.sight
+    (sym (c.in-Some.ensures.strange a refl refl named-is)) in
     let unseen : c'.sight.is_seen h.side h.port ≡ false =
     ap (λ (p : Sight). p.is_seen h.side h.port) (sym stand.sight) ∙ sym c.is_tapped.ensures ∙ c.if-not-is_tapped.true in
     subst (λ (x : Rows). StreamsStand x c' until (frame_with Left a ∷ frames) lines time c.args.self.now) stand.tables
@@ -72,9 +73,11 @@ returns-in-Some-clause-stands c t c' until time frames lines named-is e le behin
     let mine-e : counts r c' (frame_with Left a) ≡ true =
     subst (λ (x : Rows). counts x c' (frame_with Left a) ≡ true) (sym stand.tables) e in
     let own : is_stranger r c'.sight a ≡ false =
-    subst (λ (p : Sight). is_stranger r p a ≡ false) stand.sight (sym (c.in-Some.ensures.strange a refl refl named-is)) in
+    subst (λ (p : Sight). is_stranger r p a ≡ false) stand.sight
+    (sym (c.in-Some.ensures.strange a refl refl named-is)) in
     let sees : c'.sight.is_seen h.side h.port ≡ true =
-    ap (λ (p : Sight). p.is_seen h.side h.port) (sym stand.sight) ∙ sym c.is_tapped.ensures ∙ c.if-not-is_tapped.false in
+    ap (λ (p : Sight). p.is_seen h.side h.port) (sym stand.sight) ∙ sym c.is_tapped.ensures ∙
+    c.if-not-is_tapped.false in
     let judges : is_judged r c'.sight h.side l h.port ≡ true =
     ap (λ v. v && c'.sight.is_seen h.side h.port) (stream-heard r c'.sight a link l own named at) ∙ sees in
     let left : gone_of (arrival_with c.args.n h.time h.side h.port c.in_ok-bytes.bytes) ≡ gone_of a =
@@ -95,7 +98,8 @@ returns-in-Some-clause-stands c t c' until time frames lines named-is e le behin
           (subst (λ g. AreKept r c' until None time (with_left key g (given_of r c' frames)) lines
           c.leave_to.new.kept) left k)));
     })) c.leave_to.result
-    (c.leave_to.ensures c' until time (given_of r c' frames) lines l at to.2 (record { by = mine.by; sight = mine.sight }) le (left-start r c' a mine-e)
+    (c.leave_to.ensures c' until time (given_of r c' frames) lines l at to.2
+    (record { by = mine.by; sight = mine.sight }) le (left-start r c' a mine-e)
     (left-times r c' frames h.time (counted-behind r c' frames h.time behind) key) (omega (arith, n, few)) old)
 
 pub returns-clause-stands : goal.returns-clause-stands

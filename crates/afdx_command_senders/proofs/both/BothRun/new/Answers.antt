@@ -8,6 +8,7 @@ returns c =
     let s = c.in_ok-senders.ensures in (
       s.0,
       s.1,
-      λ output. new-both (s.0, asked_of c.args.outlook.tables.now (taps_in c.args.taps.now) c.args.asked) _ _ output s.1.tables
+      λ output. new-both (s.0, asked_of c.args.outlook.tables.now (taps_in c.args.taps.now) c.args.asked) _ _
+          output s.1.tables
           c.in_ok-switch.ensures s.2,
     )

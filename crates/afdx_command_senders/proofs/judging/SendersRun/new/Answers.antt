@@ -20,6 +20,7 @@ returns c =
         };
         findings = refl;
         have = λ until may. s.2 until (Some 0);
-        early = nothing-early s.0 (asked_of c.args.outlook.tables.now (taps_in c.args.taps.now) c.args.asked).run.until 0;
+        early = nothing-early s.0 (asked_of c.args.outlook.tables.now (taps_in c.args.taps.now)
+            c.args.asked).run.until 0;
       },
     )

@@ -30,7 +30,8 @@ returns c = λ k start end past h.
             (sent_of k frames) _ (unseen_of k.0.tables (of_tables k.0.tables no_taps)) h.writes.findings
             (c.totals-senders.ensures k frames h.told h.works h.have) h.works.left_out
             (c.unseen_of-unseen.ensures
-            ∙ ap (λ (p : Taps). unseen_of c.args.self.now.tables.now (of_tables c.args.self.now.tables.now p)) c.none.ensures
+            ∙ ap (λ (p : Taps). unseen_of c.args.self.now.tables.now (of_tables c.args.self.now.tables.now p))
+            c.none.ensures
             ∙ ap (λ (t : Rows). unseen_of t (of_tables t no_taps)) h.works.tables);
       };
       written = h.writes.written;

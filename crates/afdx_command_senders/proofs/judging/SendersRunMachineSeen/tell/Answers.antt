@@ -95,7 +95,8 @@ returns-clause-told g c = λ k start past h follows can.
     let latest : latest_of frames ≤ time = let o = follows.order in let l = latest-same past in omega (arith, o, l) in
     let b = c.in_ok-tell_due.ensures.told in
     let told : List Line = b.more ++ h.told in
-    let asked = ap (λ (s : SenderChoices). asked_of k.0.tables k.1.taps s) c.tell_due.ensures.others.asked ∙ h.works.asked in
+    let asked = ap (λ (s : SenderChoices). asked_of k.0.tables k.1.taps s) c.tell_due.ensures.others.asked ∙
+    h.works.asked in
     let up : (until : ℕ) → IsEndSince k.1.run.until time until
     → HaveTold (ending until k.0) (Some time) (came_in k.1 frames) told c.tell_due.new.self.senders
     × AreToldBefore (ending until k.0) (Some time) (came_in k.1 frames) told =
@@ -120,6 +121,7 @@ returns-clause-told g c = λ k start past h follows can.
             ∙ b.tells.findings (findings_in (told_lines h.told)) h.writes.findings
             ∙ ap (λ (n : ℕ). min n most_counted) (sym (found-told b.more h.told));
       };
-      have = λ until may. c.in_ok-take.ensures.came k.0.tables k.1 (ending until k.0) frames told asked (up until may).0;
+      have = λ until may. c.in_ok-take.ensures.came k.0.tables k.1 (ending until k.0) frames told asked
+          (up until may).0;
       early = early-next k.1 k.0 k.1.run.until x frames told (λ until may. (up until may).1);
     }
