@@ -355,7 +355,11 @@ if [[ -n $reporting ]]; then
     report_place_tests
     killed_report_tests
     folder_in_way_test
-    campaign_link_tests
+    if has parallel; then
+        campaign_link_tests
+    else
+        skip 'links in the folder of a campaign' 'there is no GNU parallel'
+    fi
 else
     skip 'reports that are written' "there is no program $program, or no numpy"
 fi

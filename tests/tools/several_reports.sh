@@ -85,6 +85,10 @@ place_tests() { # of what was made before
         says err 'list BadLine 1'
         wants_number "$work/out" 'r["totals"]["frames"]' 0
     )"
+}
+
+many_tests() { # lists of a campaign
+    local two=examples/two_switches
     launch tools/afdx-campaign "$two.toml" "$flying/sample.list" "$two.list" --out "$flying/many"
     tell 'a campaign' "$(is_status 3; says out 'examples/two_switches.list')"
     launch tools/afdx-campaign examples/aircraft.toml "$flying/sample.list" --out "$flying/many"
@@ -157,6 +161,7 @@ if [[ -n $reporting ]]; then
     mkdir -p "$flying"
     counted_ways_tests
     place_tests
+    if has parallel; then many_tests; else skip 'campaigns by place' 'there is no GNU parallel'; fi
     if has neato; then picture_tests; else skip 'a picture of the network' 'no graphviz'; fi
     no_graphviz_tests
 else
