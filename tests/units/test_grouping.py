@@ -10,7 +10,14 @@ except ModuleNotFoundError:
     raise unittest.SkipTest("there is no package numpy") from None
 
 from afdx_tools.replay.copies import copies_at_receivers
-from afdx_tools.replay.grouping import FEW, ByKey, grouped, is_ascending, narrowed
+from afdx_tools.replay.grouping import (
+    FEW,
+    ByKey,
+    first_greatest,
+    grouped,
+    is_ascending,
+    narrowed,
+)
 from small_replay import MS, arrival, counted
 
 MOST = (1, 2, 50, FEW - 1, FEW, FEW + 1, 3 * FEW, 2**31 - 1)  # keys are below one of these
@@ -30,6 +37,11 @@ class Keys(unittest.TestCase):
                 found = grouped(np.array(keys, np.int32))
                 self.assertEqual({key: at.tolist() for key, at in found.items()}, wanted)
                 self.assertEqual(list(found), sorted(wanted))
+
+    def test_the_first_of_the_greatest_of_each_part(self) -> None:
+        values, bounds = np.array([3, 9, 9, 4, 9, 2, 2]), np.array([0, 3, 4, 5, 7])
+        self.assertEqual(first_greatest(values, bounds).tolist(), [1, 3, 4, 5])
+        self.assertEqual(first_greatest(values[:0], bounds[:1]).tolist(), [])
 
     def test_more_keys_than_have_short_numbers(self) -> None:
         keys = np.random.default_rng(1).permutation(FEW + 9)

@@ -8,7 +8,14 @@ try:
 except ModuleNotFoundError:
     raise unittest.SkipTest("there is no package numpy") from None
 
-from afdx_tools.replay.counting import SHARES, Path, Steps, loads_of, most_waiting, steps_of
+from afdx_tools.replay.counting import (
+    Steps,
+    late_of,
+    loads_of,
+    most_waiting,
+    spreads_of,
+    steps_of,
+)
 from afdx_tools.report.numbers import histogram_of, largest
 from small_replay import arrival, counted
 
@@ -31,27 +38,37 @@ X 1134400 disp sequence
 """
 
 
-def path(latencies: list[int]) -> Path:
-    """Copies with these latencies, which ascend."""
-    return Path(10, 3, 0, np.array(latencies), 0, 0)
+def percentiles(*parts: list[int]) -> list[tuple[int, ...]]:
+    """Those of each of these parts of latencies, which ascend."""
+    bounds = np.cumsum([0, *map(len, parts)])
+    spreads = spreads_of(np.concatenate([np.array(part, np.int64) for part in parts]), bounds)
+    for part, spread in zip(parts, spreads):
+        assert (spread[0], spread[-1]) == (part[0], part[-1])
+    return [spread[1:-1] for spread in spreads]
 
 
 class Percentiles(unittest.TestCase):
     """The least latency that so many of the copies don't exceed."""
 
     def test_of_a_thousand(self) -> None:
-        thousand = path(list(range(1, 1001)))
-        self.assertEqual([thousand.rank(share) for share in SHARES], [500, 990, 999])
+        self.assertEqual(percentiles(list(range(1, 1001))), [(500, 990, 999)])
 
     def test_of_few(self) -> None:
-        self.assertEqual([path([7]).rank(share) for share in SHARES], [7, 7, 7])
-        self.assertEqual([path([7, 9]).rank(share) for share in SHARES], [7, 9, 9])
-        self.assertEqual([path([7, 8, 9]).rank(share) for share in SHARES], [8, 9, 9])
-        self.assertEqual(path(list(range(1, 102))).rank(990), 100)  # 99.99 of 101
+        found = percentiles([7], [7, 9], [7, 8, 9])
+        self.assertEqual(found, [(7, 7, 7), (7, 9, 9), (8, 9, 9)])
+        self.assertEqual(percentiles(list(range(1, 102)))[0][1], 100)  # 99.99 of 101
 
     def test_is_exact_where_a_quotient_of_floats_is_not(self) -> None:
         # 99.9 * 41000 / 100 is 40959.00000000001 in floats
-        self.assertEqual(path(list(range(1, 41_001))).rank(999), 40_959)
+        self.assertEqual(percentiles(list(range(1, 41_001)))[0][2], 40_959)
+
+
+class Late(unittest.TestCase):
+    """How many latencies of each part are over what is asked."""
+
+    def test_each_part_has_its_limit(self) -> None:
+        latency, bounds = np.array([5, 6, 7, 5, 6, 7, 1]), np.array([0, 3, 6, 7])
+        self.assertEqual(late_of(latency, bounds, np.array([6, 4, 1])).tolist(), [1, 3, 0])
 
 
 class Latencies(unittest.TestCase):
@@ -64,8 +81,9 @@ class Latencies(unittest.TestCase):
         paths = self.counting.paths
         places = [(one.link, one.port, one.side) for one in paths]
         self.assertEqual(places, [(10, 3, 0), (20, 3, 0)])
-        self.assertEqual(paths[0].latencies.tolist(), [67_200])
-        self.assertEqual(paths[1].latencies.tolist(), [133_400, 191_600])
+        self.assertEqual((paths[0].frames, set(paths[0].spread)), (1, {67_200}))
+        self.assertEqual((paths[1].frames, set(paths[1].spread)), (2, {133_400, 191_600}))
+        self.assertEqual([one.worst for one in paths], [0, 2])
 
     def test_late_is_over_the_configured_100_us(self) -> None:
         self.assertEqual([one.late for one in self.counting.paths], [0, 2])

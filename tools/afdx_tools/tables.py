@@ -129,20 +129,21 @@ def by_column(rows: Sequence[Row]) -> Iterator[tuple[str, Sequence]]:
     return zip(heads(rows), zip(*(row.values() for row in rows)))
 
 
-def even(name: str, values: Sequence) -> list[str]:
-    """A column with its name above it, all of one width; numbers stand to the right."""
+def even(name: str, values: Sequence) -> tuple[str, list[str]]:
+    """A column with its name above it, and the format that gives all of it one width; numbers stand
+    to the right."""
     cells = [name, *cells_of(values)]
-    width = max(map(len, cells))
-    is_number = all(issubclass(kind, (int, float, type(None))) for kind in {*map(type, values)})
-    return [each.rjust(width) if is_number else each.ljust(width) for each in cells]
+    is_number = all(issubclass(kind, (int, float, type(None))) for kind in kinds_of(values))
+    return f"%{'' if is_number else '-'}{max(map(len, cells))}s", cells
 
 
 def as_text(rows: Sequence[Row]) -> str:
     """Rows as a table of even columns."""
     if not rows:
         return "(none)\n"
-    lines = zip(*(even(name, values) for name, values in by_column(rows)))
-    return "".join("  ".join(line).rstrip() + "\n" for line in lines)
+    formats, columns = zip(*(even(name, values) for name, values in by_column(rows)))
+    line = "  ".join(formats)
+    return "\n".join([(line % cells).rstrip() for cells in zip(*columns)]) + "\n"
 
 
 def plain(value: object) -> str:
@@ -176,7 +177,7 @@ def csv_text(rows: Sequence[Row], columns: Sequence[str] = ()) -> str:
     """Rows as the text of a CSV file; where there are none these columns are its head."""
     lines = zip(*(plains(values) for _, values in by_column(rows)))
     head = map(plain, heads(rows) or columns)
-    return "".join(",".join(line) + "\n" for line in (head, *lines))
+    return "\n".join(map(",".join, (head, *lines))) + "\n"
 
 
 def over_time(arrivals: Row) -> list[Row]:

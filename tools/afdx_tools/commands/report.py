@@ -17,6 +17,7 @@ that judges the systems by what they sent, too, or these alone.
 from __future__ import annotations
 
 import argparse
+import gc
 import importlib
 from typing import NoReturn
 
@@ -74,8 +75,12 @@ def words() -> argparse.ArgumentParser:
 
 
 def run() -> int:
-    """Makes the report that the words ask for; the status. Help needs no numpy."""
+    """Makes the report that the words ask for; the status. Help needs no numpy.
+
+    What is made is kept until the end, and none of it refers to itself: looking for what does
+    would take a seventh of the time."""
     args = words().parse_args()
+    gc.disable()
     try:
         importlib.import_module("numpy")
     except ModuleNotFoundError:

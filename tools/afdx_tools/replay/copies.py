@@ -7,7 +7,7 @@ import numpy as np
 
 from afdx_tools.replay.counting import Counting
 from afdx_tools.replay.events import ACCEPT, DELIVERED
-from afdx_tools.replay.grouping import grouped, order_of
+from afdx_tools.replay.grouping import Groups, first_greatest, grouped, order_of
 from afdx_tools.replay.silence import Silences
 from afdx_tools.replay.slots import Slots
 from afdx_tools.replay.traffic import NUMBERED, of_kinds
@@ -170,13 +170,12 @@ def greatest_by_link(
 ) -> dict[int, Skew]:  # fmt: skip
     """The greatest of each link, by its share of what its table has; `places` are those of the
     links."""
-    found = {}
-    shares = apart / np.maximum(table, 1)
-    for index, at in grouped(places).items():
-        worst = int(at[int(np.argmax(shares[at]))])
-        amount, line = int(apart[worst]), int(lines[worst])
-        found[counting.vls[index]] = Skew(len(at), amount, line, int(table[worst]))
-    return found
+    shares, groups = apart / np.maximum(table, 1), Groups(places)
+    bounds = np.array(groups.bounds, np.int64)
+    worst = groups.order[first_greatest(shares[groups.order], bounds)]
+    columns = (np.diff(bounds), apart[worst], lines[worst], table[worst])
+    found = zip(groups.keys, *(part.tolist() for part in columns))
+    return {counting.vls[index]: Skew(*skew) for index, *skew in found}
 
 
 def skews_asked(counting: Counting, places: np.ndarray, ports: np.ndarray) -> np.ndarray:

@@ -9,36 +9,34 @@ from __future__ import annotations
 
 import functools
 from dataclasses import dataclass
+from typing import NamedTuple
 
 import numpy as np
 
 from afdx_tools.config import MOST_PORTS, Config
 from afdx_tools.replay.events import ACCEPT, FATES, LEFT, LOST, NOT_YET, OLD, Events
-from afdx_tools.replay.grouping import ByKey, Groups, is_ascending, narrowed
+from afdx_tools.replay.grouping import ByKey, Groups, first_greatest, is_ascending, narrowed
 from afdx_tools.replay.listing import NO_LINK, Listing
 
 WIRE_EXTRA = 20  # bytes that a frame takes on the wire beside its own
 MOST_LINK = 65_536
 MOST_STEPS = 120  # of loads over time
 SHARES = (500, 990, 999)  # of a thousand: the percentiles 50, 99 and 99.9 of latencies
+Spread = tuple[int, ...]  # of latencies: the least, their percentiles, the greatest
 
 
-@dataclass(frozen=True)
-class Path:
-    """The copies of a link that left one port of one side: their latencies in ns, ascending, the
-    first copy (its place in the events) that had the greatest, and what is `asked` of them."""
+class Path(NamedTuple):
+    """The copies of a link that left one port of one side: how many, the `spread` of their
+    latencies in ns, the first copy (its place in the events) that had the greatest, and how many
+    took longer than is asked of them."""
 
     link: int
     port: int
     side: int
-    latencies: np.ndarray
+    frames: int
+    spread: Spread
     worst: int
     late: int
-    asked: int = 0
-
-    def rank(self, share: int) -> int:
-        """The least latency that so many of a thousand copies don't exceed."""
-        return int(self.latencies[max(-(-share * len(self.latencies) // 1000) - 1, 0)])
 
 
 @dataclass(frozen=True)
@@ -190,18 +188,18 @@ class Counting:
         groups = Groups(self.places[at] * np.int32(2) + self.sides[at])
         at = at[groups.order]
         latency = narrowed(latency)[at]
+        bounds = np.array(groups.bounds, np.int64)
+        worst, limits = at[first_greatest(latency, bounds)], asked[at[bounds[:-1]]]
+        for _, begin, end in groups.parts():
+            latency[begin:end].sort()
+        counts = np.diff(bounds)
+        columns = (counts, worst, late_of(latency, bounds, limits))
+        found = zip(groups.keys, spreads_of(latency, bounds), *(part.tolist() for part in columns))
         return [
-            self.path(key, at[begin:end], latency[begin:end], int(asked[at[begin]]))
-            for key, begin, end in groups.parts()
-        ]
-
-    def path(self, key: int, at: np.ndarray, latencies: np.ndarray, asked: int) -> Path:
-        """One of them; `at` are its copies, whose latencies are put in order."""
-        link, port = self.vls[key // 2 // self.ports], key // 2 % self.ports
-        worst = int(at[latencies.argmax()])
-        latencies.sort()
-        late = len(latencies) - int(latencies.searchsorted(asked, "right"))
-        return Path(link, port, key % 2, latencies, worst, late, asked)
+            Path(self.vls[key // 2 // self.ports], key // 2 % self.ports, key % 2, count, spread,
+                 slowest, late)
+            for key, spread, count, slowest, late in found
+        ]  # fmt: skip
 
     @functools.cached_property
     def queues(self) -> tuple[Steps, list[Queue]]:
@@ -243,6 +241,25 @@ class Counting:
             if len(times):
                 found[word] = np.bincount(steps.of(times), minlength=steps.count)
         return steps, found
+
+
+def spreads_of(latency: np.ndarray, bounds: np.ndarray) -> list[Spread]:
+    """The spread of each part of the latencies, which ascend from one of the bounds to the next. A
+    percentile is the least latency that so many of a thousand copies don't exceed."""
+    first, counts = bounds[:-1], np.diff(bounds)
+    percentiles = [first + np.maximum(-(-share * counts // 1000) - 1, 0) for share in SHARES]
+    places = [first, *percentiles, bounds[1:] - 1]
+    return list(zip(*(latency[place].tolist() for place in places)))
+
+
+def late_of(latency: np.ndarray, bounds: np.ndarray, limits: np.ndarray) -> np.ndarray:
+    """How many of each part of the latencies, which ascend from one of the bounds to the next, are
+    over its limit."""
+    late = np.zeros(len(limits), np.int64)
+    for place in np.flatnonzero(latency[bounds[1:] - 1] > limits).tolist():
+        part = latency[bounds[place] : bounds[place + 1]]
+        late[place] = len(part) - part.searchsorted(limits[place], "right")
+    return late
 
 
 def sorted_by(keys: np.ndarray, values: np.ndarray) -> np.ndarray:

@@ -70,6 +70,16 @@ def grouped(keys: np.ndarray) -> dict[int, np.ndarray]:
     return {key: groups.order[begin:end] for key, begin, end in groups.parts()}
 
 
+def first_greatest(values: np.ndarray, bounds: np.ndarray) -> np.ndarray:
+    """Of each part of the values, from one of the bounds to the next, the place of the greatest, of
+    equal ones the first. No part is empty."""
+    if len(bounds) < 2:
+        return bounds[:0]
+    greatest = np.maximum.reduceat(values, bounds[:-1])
+    at = np.flatnonzero(values == np.repeat(greatest, np.diff(bounds)))
+    return at[np.searchsorted(at, bounds[:-1])]
+
+
 def is_ascending(values: np.ndarray) -> bool:
     """Is none of them below the one before it?"""
     return not (values[1:] < values[:-1]).any()

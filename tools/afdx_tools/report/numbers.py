@@ -8,7 +8,7 @@ import numpy as np
 from afdx_tools.config import MOST_PORTS
 from afdx_tools.replay.absence import Copied, alone_by_side, contradicted
 from afdx_tools.replay.checked import Checked
-from afdx_tools.replay.counting import SHARES, Counting, Path, sorted_by
+from afdx_tools.replay.counting import Counting, Path, sorted_by
 from afdx_tools.replay.events import ACCEPT, DELIVERED, FATES, LEFT, LOST, OLD, REDUNDANT, side_name
 from afdx_tools.replay.listing import NO_LINK
 from afdx_tools.replay.traffic import Traffic, traffic_of
@@ -143,20 +143,28 @@ def measured_row(counting: Counting, vl: int, traffic: Traffic | None) -> Row:
 
 def spread_of(path: Path) -> Row:
     """How many frames went on a path, and the latencies of the fastest, of most, of the slowest."""
-    half, most, nearly = (path.rank(share) for share in SHARES)
+    least, half, most, nearly, greatest = path.spread
     return {
-        "frames": len(path.latencies),
-        "least_ns": int(path.latencies[0]),
+        "frames": path.frames,
+        "least_ns": least,
         "median_ns": half,
         "p99_ns": most,
         "p99.9_ns": nearly,
-        "greatest_ns": int(path.latencies[-1]),
+        "greatest_ns": greatest,
     }
 
 
-def latency_row(counting: Counting, checked: Checked, path: Path) -> Row:
-    """The latencies of a link at a port of one side."""
-    config, line = counting.config, int(counting.events.line[path.worst])
+def worst_of(counting: Counting, paths: Sequence[Path]) -> tuple[np.ndarray, list[int]]:
+    """Of each path its slowest copy, and the number that the program gave that one's line."""
+    worst = np.array([path.worst for path in paths], np.int64)
+    return worst, counting.events.named.numbers[counting.events.line[worst]].tolist()
+
+
+def latency_row(
+    counting: Counting, checked: Checked, path: Path, at_line: int, at_ns: int
+) -> Row:
+    """The latencies of a link at a port of one side; the slowest frame's line, and when it came."""
+    config = counting.config
     link = config.row_at(path.link, path.port) or config.links[path.link]
     bound = checked.bound_of(link, path.port)
     return {
@@ -166,19 +174,22 @@ def latency_row(counting: Counting, checked: Checked, path: Path) -> Row:
         "side": side_name(path.side),
         "priority": link.priority,
         **spread_of(path),
-        "at_line": named(counting, line),
-        "at_ns": int(counting.events.since[path.worst]),
+        "at_line": at_line,
+        "at_ns": at_ns,
         "bound_ns": bound,
         "configured_ns": link.latency_ns,
         "margin_ns": None if bound is None else link.latency_ns - bound,
-        "share": int(path.latencies[-1]) / link.latency_ns,
+        "share": path.spread[-1] / link.latency_ns,
         "late": path.late,
     }
 
 
 def latency_rows(counting: Counting, checked: Checked) -> list[Row]:
     """A row for each link, port and side where a frame left."""
-    return [latency_row(counting, checked, path) for path in counting.paths]
+    worst, lines = worst_of(counting, counting.paths)
+    times = counting.events.since[worst].tolist()
+    found = zip(counting.paths, lines, times)
+    return [latency_row(counting, checked, path, line, time) for path, line, time in found]
 
 
 def port_rows(counting: Counting, checked: Checked) -> tuple[list[Row], Row]:
@@ -221,12 +232,11 @@ def drops_of(counting: Counting) -> Row:
 def histogram_of(counting: Counting) -> Row:
     """For each side the copies by share of their link's configured latency, in steps of 5 %; the
     last step is over 100 %."""
-    counts = np.zeros((2, 22), np.int64)
-    for path in counting.ways:
-        ends = np.arange(1, 21) * max(path.asked, 1) // 20
-        counts[path.side, 1:21] += path.latencies.searchsorted(ends, "right")
-        counts[path.side, 21] += len(path.latencies)
-    return {side_name(side): np.diff(counts[side]).tolist() for side in (0, 1)}
+    at = np.flatnonzero(counting.ended) if not counting.ended.all() else slice(None)
+    whole, promised, sides = counting.whole[at], counting.promised[at], counting.sides[at]
+    steps = np.clip((20 * whole - 1) // np.maximum(promised, 1), 0, 20)
+    counts = np.bincount(steps + 21 * sides.astype(np.int64), minlength=42)
+    return {side_name(side): counts[21 * side : 21 * side + 21].tolist() for side in (0, 1)}
 
 
 def frame_rows(counting: Counting, checked: Checked, most: int) -> list[Row]:

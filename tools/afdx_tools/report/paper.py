@@ -5,8 +5,8 @@ from __future__ import annotations
 import heapq
 from typing import Collection, Mapping, NamedTuple, Sequence
 
-from afdx_tools.report.parts import heads_of, is_over, most_shown, share_of, words_in
-from afdx_tools.tables import Row, by_column
+from afdx_tools.report.parts import are_over, heads_of, most_shown, share_of, words_in
+from afdx_tools.tables import Row, by_column, heads
 
 # Pixels of the style sheet, 96 an inch, at its 7 pt, of a wide font: a sheet has 281 mm for tables
 WIDE, LETTER, APART, GAP = 1_060, 6.0, 5, 16
@@ -43,9 +43,12 @@ class Paper(NamedTuple):
         return " ".join(words + ["small"] * (self.lines <= SMALL))
 
 
-def is_wrong(row: Row) -> bool:
-    """Isn't it as it should be, or is it about frames that were dropped and the like?"""
-    return is_over(row) or "reason" in row or "what" in row
+def wrong_ones(rows: Sequence[Row]) -> set[int]:
+    """The places of the rows that aren't as they should be, or that are about frames that were
+    dropped and the like."""
+    if {"reason", "what"} & set(heads(rows)):
+        return {*range(len(rows))}
+    return {place for place, is_over in enumerate(are_over(rows)) if is_over}
 
 
 def width_of(rows: Sequence[Row]) -> float:
@@ -63,7 +66,7 @@ def needed(rows: Sequence[Row]) -> set[int]:
     """The places of the rows that stand on paper in any case: what is wrong, and the rows that are
     nearest to their latency, or the first ones."""
     top = heapq.nsmallest(LEAST_TOP, range(len(rows)), key=lambda n: (-share_of(rows[n]), n))
-    return {*(n for n, row in enumerate(rows) if is_wrong(row)), *top}
+    return wrong_ones(rows) | {*top}
 
 
 def paper_of(rows: Sequence[Row]) -> Paper:

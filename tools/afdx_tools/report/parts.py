@@ -2,8 +2,9 @@
 from __future__ import annotations
 
 import functools
+import operator
 from html import escape
-from typing import Collection, Sequence
+from typing import Callable, Collection, Sequence
 
 from afdx_tools.known import findings
 from afdx_tools.report.where import Where, named_in
@@ -19,6 +20,7 @@ PLACES = ("came_in",)  # ports that the search field finds
 WRONG = ("late", "silent", "clock", "twice", "alone", "missing", "never", "amiss")
 LIMITED = (("jitter_ns", "table_jitter_ns"), ("at_receivers_ns", "table_skew_ns"),
            ("skew_ns", "table_skew_ns"))  # fmt: skip
+SAID = (("reason", "wrong-port"), ("holds", "no"))  # columns, and their words of what is wrong
 
 
 def is_plain(name: str) -> bool:
@@ -44,16 +46,30 @@ def wrong_columns() -> tuple[str, ...]:
     return *WRONG, *findings()
 
 
-def is_over(row: Row) -> bool:
-    """Is something in the row over what the tables say, or of no good at all?"""
-    if any(map(row.get, wrong_columns())):
-        return True
-    for name, table in LIMITED:
-        if table in row and (row.get(name) or 0) > row[table]:
-            return True
-    if row.get("reason") == "wrong-port" or row.get("holds") == "no":
-        return True
-    return "latency_ns" in row and row["share"] > 1
+def are_over(rows: Sequence[Row]) -> list[bool]:
+    """Of each row of a table: is something in it over what the tables say, or of no good at all?"""
+    columns = heads(rows)
+    tests: list[Callable[[Row], object]] = [
+        operator.itemgetter(name) for name in wrong_columns() if name in columns
+    ]
+    tests += [functools.partial(exceeds, *pair) for pair in LIMITED if pair[1] in columns]
+    tests += [functools.partial(says, *pair) for pair in SAID if pair[0] in columns]
+    if "latency_ns" in columns:
+        tests.append(lambda row: row["share"] > 1)
+    over = [False] * len(rows)
+    for test in tests:
+        over = [was or bool(test(row)) for was, row in zip(over, rows)]
+    return over
+
+
+def exceeds(name: str, table: str, row: Row) -> bool:
+    """Is a value of the row over what the tables say?"""
+    return (row.get(name) or 0) > row[table]
+
+
+def says(name: str, word: str, row: Row) -> bool:
+    """Is a value of the row this word?"""
+    return bool(row[name] == word)
 
 
 # ---- which rows ----------------------------------------------------------------------------------
@@ -63,8 +79,9 @@ def most_shown(rows: Sequence[Row]) -> Sequence[Row]:
     """The rows that a page shows: all, or of too many those with the greatest share."""
     if len(rows) <= MOST_ROWS:
         return rows
-    order = sorted(range(len(rows)), key=lambda n: (not is_over(rows[n]), -share_of(rows[n]), n))
-    return [rows[n] for n in sorted(order[:MOST_ROWS])]
+    shares = [-share_of(row) for row in rows]
+    order = sorted(zip(map(operator.not_, are_over(rows)), shares, range(len(rows))))
+    return [rows[n] for n in sorted(n for _, _, n in order[:MOST_ROWS])]
 
 
 def share_of(row: Row) -> float:
@@ -81,7 +98,7 @@ def words_in(name: str, values: Sequence) -> list[str]:
     if is_plain(name) or kinds <= {str, float}:
         return cells_of(values)
     if kinds == {int}:
-        return list(map("{:,}".format, values))
+        return [f"{value:,}" for value in values]
     return [f"{value:,}" if isinstance(value, int) else cell(value) for value in values]
 
 
@@ -93,9 +110,8 @@ def heads_of(name: str) -> str:
 def begun(rows: Sequence[Row], paper: Collection[int]) -> list[str]:
     """How the rows begin: what styles each has."""
     begins = []
-    for place, row in enumerate(rows):
-        styles = ("over", is_over(row)), ("screen", place not in paper)
-        styled = " ".join(style for style, is_so in styles if is_so)
+    for place, is_over in enumerate(are_over(rows)):
+        styled = " ".join(["over"] * is_over + ["screen"] * (place not in paper))
         begins.append(f'<tr class="{styled}">' if styled else "<tr>")
     return begins
 
@@ -117,41 +133,30 @@ def escaped(texts: Sequence[str]) -> list[str]:
     return escape("\n".join(texts)).split("\n")
 
 
-def body_column(shown: Sequence[str], kind: str, titles: Sequence[str] = ()) -> list[str]:
-    """The cells of a column."""
-    styled = f' class="{kind}"' if kind else ""
-    if not titles:
-        return [f"<td{styled}>{words}</td>" for words in escaped(shown)]
-    return [f"<td{styled}{t}>{words}</td>" for t, words in zip(titles, escaped(shown))]
-
-
-def head_column(
-    rows: Sequence[Row], shown: Sequence[str], kind: str, titles: Sequence[str] = ()
-) -> list[str]:
-    """The cells of the first column, which are the heads of the rows."""
-    styled = f' class="{kind}"' if kind else ""
-    late = ['<b class="late-row">LATE</b> ' if row.get("late") else "" for row in rows]
-    return [
-        f'<th scope="row"{styled}{t}>{is_late}<span>{words}</span></th>'
-        for t, is_late, words in zip(titles or [""] * len(rows), late, escaped(shown))
-    ]
+def late_marks(rows: Sequence[Row]) -> list[str]:
+    """What stands before the heads of the rows where copies were late."""
+    return ['<b class="late-row">LATE</b> ' if row.get("late") else "" for row in rows]
 
 
 def body_of(
     rows: Sequence[Row], kinds: Sequence[str], paper: Collection[int], where: Where | None
 ) -> str:
     """The rows of a table. A cell that names a frame has a title that says where it stands."""
-    titles = titled(rows, where)
-    columns = [begun(rows, paper)]
+    titles, none = titled(rows, where), [""] * len(rows)
+    line, columns = "%s", [begun(rows, paper)]
     for (name, values), kind in zip(by_column(rows), kinds):
-        shown, of_column = words_in(name, values), titles.get(name, ())
-        is_head = len(columns) == 1
-        columns.append(
-            head_column(rows, shown, kind, of_column)
-            if is_head
-            else body_column(shown, kind, of_column)
-        )
-    return "".join("".join(cells) + "</tr>\n" for cells in zip(*columns))
+        styled = f' class="{kind}"' if kind else ""
+        if len(columns) == 1:
+            line += f'<th scope="row"{styled}%s>%s<span>%s</span></th>'
+            columns += [titles.get(name, none), late_marks(rows)]
+        elif name in titles:
+            line += f"<td{styled}%s>%s</td>"
+            columns.append(titles[name])
+        else:
+            line += f"<td{styled}>%s</td>"
+        columns.append(escaped(words_in(name, values)))
+    line += "</tr>\n"
+    return "".join([line % cells for cells in zip(*columns)])
 
 
 def caption_of(all_rows: Sequence[Row], shown: int, paper: int, head: str, file: str) -> str:

@@ -2,65 +2,100 @@
 switch took of them; what each receiver read, once, twice or never."""
 from __future__ import annotations
 
+import functools
+from typing import NamedTuple
+
 import numpy as np
 
+from afdx_tools.config import Way
 from afdx_tools.replay.absence import Copied, number_of, side_of
 from afdx_tools.replay.checked import Checked
 from afdx_tools.replay.counting import Counting, Path
-from afdx_tools.replay.events import DELIVERED, NOT_YET, REDUNDANT, side_name
-from afdx_tools.replay.grouping import grouped
-from afdx_tools.report.numbers import at_port, named, spread_of, words_of
+from afdx_tools.replay.events import DELIVERED, REDUNDANT, side_name
+from afdx_tools.replay.grouping import Groups, first_greatest
+from afdx_tools.report.numbers import at_port, spread_of, words_of, worst_of
 from afdx_tools.tables import Row
 
+Taken = dict[tuple[int, int], tuple[int, int]]
 
-def copies_of(counting: Counting, lines: np.ndarray) -> dict[tuple[int, int], int]:
-    """The copies of these lines' frames that left, by line and port."""
+
+class Asked(NamedTuple):
+    """What the tables and `check` say of a link's way to a receiver: first columns of its rows, the
+    output ports on the way, its class, and the ns that are proved, configured and promised."""
+
+    begins: Row
+    way: Way
+    priority: str
+    bound: int | None
+    configured: int
+    promised: int | None
+
+
+def asked_of(counting: Counting, checked: Checked, link: int, port: int) -> Asked:
+    """What they say of the way of a link to a port."""
+    config, at = counting.config, at_port(counting, port)
+    row = config.row_at(link, port) or config.links[link]
+    return Asked(
+        {"link": link, "from": config.links[link].source, **at},
+        config.way_to(link, port),
+        row.priority,
+        checked.bound_on(config, link, port),
+        config.latency_to(link, port),
+        checked.ends.get((link, at["system"])),
+    )
+
+
+def taken_by(counting: Counting, lines: np.ndarray) -> Taken:
+    """Of the copies of these lines' frames that left what each took at its switch, and what is
+    configured there, in ns, by line and port."""
     events, wanted = counting.events, np.zeros(len(counting.place), bool)
     wanted[lines] = True
     at = np.flatnonzero(counting.left & wanted[events.line])
-    return dict(zip(zip(events.line[at].tolist(), events.port[at].tolist()), at.tolist()))
+    columns = (events.line, events.port, counting.latency, counting.configured)
+    line, port, took, configured = (column[at].tolist() for column in columns)
+    return dict(zip(zip(line, port), zip(took, configured)))
 
 
 def way_rows(counting: Counting, checked: Checked) -> list[Row]:
     """A row for each link, receiver and side where a frame left, from the list's arrival on; by
     share of the configured latency, so that late ones come first."""
     paths = counting.ways
-    worst = np.array([path.worst for path in paths], np.int64)
-    copies = copies_of(counting, counting.events.line[worst])
-    rows = [way_row(counting, checked, path, copies) for path in paths]
+    worst, numbers = worst_of(counting, paths)
+    lines = counting.events.line[worst]
+    taken, times = taken_by(counting, lines), counting.listing.time[lines].tolist()
+    both = functools.cache(functools.partial(asked_of, counting, checked))  # of both sides
+    rows = [
+        {
+            **way_row(counting, both(path.link, path.port), path, line, taken),
+            "at_line": number,
+            "at_ns": time,
+        }
+        for path, line, number, time in zip(paths, lines.tolist(), numbers, times)
+    ]
     return sorted(rows, key=lambda row: -row["share"])
 
 
-def way_row(
-    counting: Counting, checked: Checked, path: Path, found: dict[tuple[int, int], int]
-) -> Row:
+def way_row(counting: Counting, asked: Asked, path: Path, line: int, found: Taken) -> Row:
     """The latencies of a link from end to end, at a receiver on one side. `hops_ns` is what each
-    switch took of the greatest; `slowest` the one that took most of what it may. The copies of the
-    slowest frame are `found` by line and port."""
-    config, line = counting.config, int(counting.events.line[path.worst])
-    row = config.row_at(path.link, path.port) or config.links[path.link]
-    way = config.way_to(path.link, path.port)
-    bound = checked.bound_on(config, path.link, path.port)
-    configured, at = config.latency_to(path.link, path.port), at_port(counting, path.port)
-    copies = [found[line, port] for port in way]
-    hops = {config.switch_of(port): int(counting.latency[n]) for port, n in zip(way, copies)}
-    shares = [counting.latency[n] / max(int(counting.configured[n]), 1) for n in copies]
+    switch took of the greatest; `slowest` the one that took most of what it may. What the slowest
+    frame's copies took is `found` by line and port."""
+    config = counting.config
+    copies = [found[line, port] for port in asked.way]
+    shares = [took / max(configured, 1) for took, configured in copies]
     return {
-        "link": path.link,
-        "from": config.links[path.link].source,
-        **at,
+        **asked.begins,
         "side": side_name(path.side),
-        "priority": row.priority,
+        "priority": asked.priority,
         **spread_of(path),
-        "at_line": named(counting, line),
-        "at_ns": int(counting.listing.time[line]),
-        "hops_ns": hops,
-        "slowest": config.called(way[int(np.argmax(shares))]),
-        "bound_ns": bound,
-        "configured_ns": configured,
-        "promised_ns": checked.ends.get((path.link, at["system"])),
-        "margin_ns": None if bound is None else configured - bound,
-        "share": int(path.latencies[-1]) / configured,
+        "at_line": None,
+        "at_ns": None,
+        "hops_ns": {config.switch_of(port): took for port, (took, _) in zip(asked.way, copies)},
+        "slowest": config.called(asked.way[shares.index(max(shares))]),
+        "bound_ns": asked.bound,
+        "configured_ns": asked.configured,
+        "promised_ns": asked.promised,
+        "margin_ns": None if asked.bound is None else asked.configured - asked.bound,
+        "share": path.spread[-1] / asked.configured,
         "late": path.late,
     }
 
@@ -68,42 +103,42 @@ def way_row(
 # ---- what receivers read -------------------------------------------------------------------------
 
 
-def frames_of(counting: Counting, copied: Copied) -> np.ndarray:
-    """Of each line of the list the line that stands for its frame: the first of both copies."""
-    own = np.arange(len(copied.other))
-    return np.where(copied.other > 0, np.minimum(copied.other, own), own)
-
-
-def sent_by(counting: Counting, frames: np.ndarray) -> dict[int, int]:
+def sent_by(counting: Counting, copied: Copied) -> dict[int, int]:
     """Of each link how many frames its first switch accepted, on either side or on both."""
-    arrived = counting.arrived
-    accepted = np.zeros(len(frames), bool)
-    accepted[frames[arrived[counting.verdicts == 0]]] = True
-    counts = np.bincount(counting.place[accepted], minlength=len(counting.vls))
+    accepted = counting.arrived[counting.verdicts == 0]
+    others = copied.other[accepted]
+    first = accepted[(others == 0) | (accepted < others)]
+    counts = np.bincount(counting.place[first], minlength=len(counting.vls))
     return {vl: int(counts[place]) for place, vl in enumerate(counting.vls)}
+
+
+def read_by(counting: Counting, copied: Copied) -> tuple[np.ndarray, np.ndarray]:
+    """Of each link and port the copies that left to a system there by what the receiver did, and
+    how many frames it read twice."""
+    events, count = counting.events, len(counting.vls) * counting.ports
+    ends = counting.ends_by(counting.places, count)
+    mine, its = copied.at_receivers
+    code = events.ends.names.index(DELIVERED)
+    both = mine[(events.end[mine] == code) & (events.end[its] == code)]
+    return ends, np.bincount(counting.places[both], minlength=count)
 
 
 def receiver_rows(counting: Counting, copied: Copied) -> list[Row]:
     """A row for each link that sent frames and each of its receivers."""
-    events, config = counting.events, counting.config
-    frames = frames_of(counting, copied)
-    sent = sent_by(counting, frames)
-    at = np.flatnonzero(counting.ended)
-    keys = counting.links[at].astype(np.int64) * counting.ports + events.port[at]
-    of_receiver = {key: at[part] for key, part in grouped(keys).items()}
+    config, sent = counting.config, sent_by(counting, copied)
+    ends, twice = read_by(counting, copied)
     skews = skews_of(counting, copied)
     rows = []
     for place, vl in enumerate(counting.order):
         for port in config.links[vl].ports if sent[vl] else ():
             key = place * counting.ports + port
-            copies = of_receiver.get(key, at[:0])
             rows.append(
                 {
                     "link": vl,
                     "from": config.links[vl].source,
                     **at_port(counting, port),
                     "frames": sent[vl],
-                    **read_row(counting, frames, copies, sent[vl]),
+                    **read_row(counting, ends[key].tolist(), int(twice[key]), sent[vl]),
                     **skews.get(key, dict.fromkeys(("skew_ns", "skew_line", "skew_side"))),
                     "table_skew_ns": config.skew_at(vl, port),
                 }
@@ -111,18 +146,15 @@ def receiver_rows(counting: Counting, copied: Copied) -> list[Row]:
     return rows
 
 
-def read_row(counting: Counting, frames: np.ndarray, copies: np.ndarray, sent: int) -> Row:
-    """What a receiver made of these copies of a link's frames."""
-    events, names = counting.events, counting.events.ends.names
-    delivered = copies[events.end[copies] == names.index(DELIVERED)]
-    _, counts = np.unique(frames[events.line[delivered]], return_counts=True)
-    ends = events.end[copies]
-    counted = np.bincount(ends[ends != NOT_YET], minlength=len(names))
+def read_row(counting: Counting, counted: list[int], twice: int, sent: int) -> Row:
+    """What a receiver made of the copies of a link's frames."""
+    names = counting.events.ends.names
+    delivered = counted[names.index(DELIVERED)]
     return {
-        "once": int((counts == 1).sum()),
-        "twice": int((counts > 1).sum()),
-        "never": sent - len(counts),
-        "redundant": int(counted[names.index(REDUNDANT)]),
+        "once": delivered - 2 * twice,
+        "twice": twice,
+        "never": sent - (delivered - twice),
+        "redundant": counted[names.index(REDUNDANT)],
         "refusals": words_of(counted, names, [DELIVERED, REDUNDANT]),
     }
 
@@ -134,14 +166,16 @@ def skews_of(counting: Counting, copied: Copied) -> dict[int, Row]:
     times, lines = counting.events.time, counting.events.line
     apart = times[mine] - times[its]
     later = np.where(apart >= 0, lines[mine], lines[its])
-    keys = counting.links[mine].astype(np.int64) * counting.ports + counting.events.port[mine]
-    found = {}
-    for key, at in grouped(keys).items():
-        worst = int(at[int(np.argmax(np.abs(apart[at])))])
-        line = int(later[worst])
-        found[key] = {
-            "skew_ns": int(abs(apart[worst])),
+    groups = Groups(counting.places[mine])
+    bounds = np.array(groups.bounds, np.int64)
+    amounts = np.abs(apart)
+    worst = groups.order[first_greatest(amounts[groups.order], bounds)]
+    found = zip(groups.keys, amounts[worst].tolist(), later[worst].tolist())
+    return {
+        key: {
+            "skew_ns": amount,
             "skew_line": number_of(counting, line),
             "skew_side": side_of(counting, line),
         }
-    return found
+        for key, amount, line in found
+    }
