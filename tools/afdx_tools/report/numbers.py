@@ -1,7 +1,7 @@
 """The numbers of a report as rows."""
 from __future__ import annotations
 
-from typing import Sequence
+from typing import Iterable, Sequence
 
 import numpy as np
 
@@ -36,7 +36,7 @@ def vl_text(vl: int) -> str | int:
     return "none" if vl == NO_LINK else int(vl)
 
 
-def words_of(counts: np.ndarray, names: Sequence[str], without: Sequence[str]) -> Row:
+def words_of(counts: Iterable[int], names: Sequence[str], without: Sequence[str]) -> Row:
     """The words that come, with their counts, in the order of the names."""
     return {name: int(count) for name, count in zip(names, counts) if count and name not in without}
 
@@ -160,9 +160,7 @@ def worst_of(counting: Counting, paths: Sequence[Path]) -> tuple[np.ndarray, lis
     return worst, counting.events.named.numbers[counting.events.line[worst]].tolist()
 
 
-def latency_row(
-    counting: Counting, checked: Checked, path: Path, at_line: int, at_ns: int
-) -> Row:
+def latency_row(counting: Counting, checked: Checked, path: Path, line: int, time: int) -> Row:
     """The latencies of a link at a port of one side; the slowest frame's line, and when it came."""
     config = counting.config
     link = config.row_at(path.link, path.port) or config.links[path.link]
@@ -174,8 +172,8 @@ def latency_row(
         "side": side_name(path.side),
         "priority": link.priority,
         **spread_of(path),
-        "at_line": at_line,
-        "at_ns": at_ns,
+        "at_line": line,
+        "at_ns": time,
         "bound_ns": bound,
         "configured_ns": link.latency_ns,
         "margin_ns": None if bound is None else link.latency_ns - bound,
@@ -187,9 +185,8 @@ def latency_row(
 def latency_rows(counting: Counting, checked: Checked) -> list[Row]:
     """A row for each link, port and side where a frame left."""
     worst, lines = worst_of(counting, counting.paths)
-    times = counting.events.since[worst].tolist()
-    found = zip(counting.paths, lines, times)
-    return [latency_row(counting, checked, path, line, time) for path, line, time in found]
+    found = zip(counting.paths, lines, counting.events.since[worst].tolist())
+    return [latency_row(counting, checked, *one) for one in found]
 
 
 def port_rows(counting: Counting, checked: Checked) -> tuple[list[Row], Row]:
@@ -232,8 +229,9 @@ def drops_of(counting: Counting) -> Row:
 def histogram_of(counting: Counting) -> Row:
     """For each side the copies by share of their link's configured latency, in steps of 5 %; the
     last step is over 100 %."""
-    at = np.flatnonzero(counting.ended) if not counting.ended.all() else slice(None)
-    whole, promised, sides = counting.whole[at], counting.promised[at], counting.sides[at]
+    whole, promised, sides = counting.whole, counting.promised, counting.sides
+    if not (at := counting.ended).all():
+        whole, promised, sides = whole[at], promised[at], sides[at]
     steps = np.clip((20 * whole - 1) // np.maximum(promised, 1), 0, 20)
     counts = np.bincount(steps + 21 * sides.astype(np.int64), minlength=42)
     return {side_name(side): counts[21 * side : 21 * side + 21].tolist() for side in (0, 1)}
