@@ -8,9 +8,7 @@ set -euo pipefail
 cd "$(dirname "$(readlink -f "$0")")/../.."
 room=$(mktemp -d "${TMPDIR:-/tmp}/afdx-formatted.XXXXXX")
 trap 'rm -rf "$room"' EXIT
-git ls-files -z --cached --others --exclude-standard -- crates crates.txt |
-    tar --create --null --ignore-failed-read --files-from=- 2>/dev/null |
-    tar --extract --directory="$room"
+tar --create --exclude=out crates crates.txt | tar --extract --directory="$room"
 status=0
 for crate in "$room"/crates/*/; do
     name=${crate%/}
