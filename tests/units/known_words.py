@@ -1,5 +1,5 @@
-"""What `afdx explain --list` prints of some words, for unit tests; no program is run. Who imports
-this has the tools read it."""
+"""What `afdx explain --list` prints of some words, for unit tests; no program is run. Who calls
+`ask_no_program` has the tools read it."""
 from __future__ import annotations
 
 from unittest import mock
@@ -28,4 +28,9 @@ LISTED = "\n".join(
 )
 
 called = known.listed  # which asks the program
-mock.patch("afdx_tools.known.listed", return_value=LISTED).start()
+
+
+def ask_no_program() -> None:
+    """From now on the tools read these words, where they would ask a program for them."""
+    if known.listed is called:
+        mock.patch("afdx_tools.known.listed", return_value=LISTED).start()

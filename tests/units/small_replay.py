@@ -3,11 +3,13 @@ from __future__ import annotations
 
 import io
 
-import known_words  # noqa: F401  (by which the tools ask no program)
+from known_words import ask_no_program
 from afdx_tools.config import Config, Link, System
 from afdx_tools.replay.counting import Counting
 from afdx_tools.replay.events import Events
 from afdx_tools.replay.listing import Listing
+
+ask_no_program()
 
 MS = 1_000_000  # ns
 SIDES = {"A": "20", "B": "40"}  # the last byte of a source address

@@ -7,7 +7,9 @@ from unittest import mock
 from afdx_tools import known
 from afdx_tools.faults import Failed
 from afdx_tools.known import Kind
-from known_words import DROPS, LISTED, called
+from known_words import DROPS, LISTED, ask_no_program, called
+
+ask_no_program()
 
 
 class Listed(unittest.TestCase):

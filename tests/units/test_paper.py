@@ -8,9 +8,11 @@ try:
 except ModuleNotFoundError:
     raise unittest.SkipTest("there is no package numpy") from None
 
-import known_words  # noqa: F401  (by which the tools ask no program)
+from known_words import ask_no_program
 from afdx_tools.report.parts import MOST_ROWS, most_shown
 from afdx_tools.tables import Row
+
+ask_no_program()
 
 Tables = dict[str, list[Row]]
 

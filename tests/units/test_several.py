@@ -22,7 +22,9 @@ from afdx_tools.replay.listing import Listing
 from afdx_tools.replay.sites import UNKNOWN, Sites
 from afdx_tools.report.layout import curve, halves, layout_of
 from afdx_tools.report.network import tree_of
-import known_words  # noqa: F401  (by which the tools ask no program)
+from known_words import ask_no_program
+
+ask_no_program()
 
 EXAMPLES = os.path.join(os.path.dirname(__file__), "..", "..", "examples")
 FWD_1, FWD_24 = port_at(0, 1), port_at(0, 24)
