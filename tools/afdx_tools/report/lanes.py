@@ -94,9 +94,15 @@ def arrivals_of(counting: Counting, silences: Silences) -> Row:
 # ---- the picture ---------------------------------------------------------------------------------
 
 
+def busy_steps(row: Row) -> int:
+    """In how many steps more frames came than may be sent."""
+    counts, most = row["counts"], row["at_most"]
+    return sum(count > most for count in counts) if max(counts, default=0) > most else 0
+
+
 def troubles_of(pair: Sequence[Row]) -> tuple[bool, int]:
     """Is a link silent, and in how many steps too many frames came, or some at wrong ports?"""
-    busy = sum(count > row["at_most"] for row in pair for count in row["counts"])
+    busy = sum(map(busy_steps, pair))
     return any(row["silent_ns"] for row in pair), busy + sum(len(row["wrong_port"]) for row in pair)
 
 
@@ -138,7 +144,7 @@ def lane_in_words(row: Row) -> str:
     words = f"link {link_words(row)} on side {row['side']}: {sum(row['counts']):,} frames"
     if row["silent_ns"]:
         words += f", {len(row['silent_ns'])} silences"
-    if busy := sum(count > row["at_most"] for count in row["counts"]):
+    if busy := busy_steps(row):
         words += f", {busy} steps with more than it may send"
     return words + (f", {sum(row['wrong_port'])} at a wrong port" if row["wrong_port"] else "")
 

@@ -6,7 +6,7 @@ import heapq
 from typing import Collection, Mapping, NamedTuple, Sequence
 
 from afdx_tools.report.parts import are_over, heads_of, most_shown, share_of, words_in
-from afdx_tools.tables import Row, by_column, heads
+from afdx_tools.tables import Row, by_column, heads, kinds_of
 
 # Pixels of the style sheet, 96 an inch, at its 7 pt, of a wide font: a sheet has 281 mm for tables
 WIDE, LETTER, APART, GAP = 1_060, 6.0, 5, 16
@@ -56,7 +56,7 @@ def width_of(rows: Sequence[Row]) -> float:
     width = LETTER * MARK
     for name, values in by_column(rows[:LOOKED_AT]):
         longest = max(map(len, words_in(name, values)))
-        if any(isinstance(value, dict) for value in values):
+        if any(issubclass(kind, dict) for kind in kinds_of(values)):
             longest = min(longest, BROKEN)
         width += LETTER * max(longest, *map(len, heads_of(name).split())) + APART
     return width
