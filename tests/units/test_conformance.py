@@ -21,7 +21,7 @@ from afdx_tools.conformance.options import (
     refuse_conform_options,
     vl_or_other,
 )
-from afdx_tools.conformance.recorded import Recorders
+from afdx_tools.conformance.recorders import Recorders
 from afdx_tools.faults import Refused
 from afdx_tools.lists import listed_of
 from afdx_tools.replay.checked import checked_of

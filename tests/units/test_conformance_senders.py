@@ -14,7 +14,8 @@ from afdx_tools.conformance.frames import Frame, frame_of_line
 from afdx_tools.conformance.judging import Amiss, Judged, judged_of, status_of
 from afdx_tools.conformance.measuring import Measured
 from afdx_tools.conformance.options import Options, add_sender_words, refuse_conform_options
-from afdx_tools.conformance.recorded import Stood, Taps
+from afdx_tools.conformance.recorded import Stood
+from afdx_tools.conformance.recorders import Taps
 from afdx_tools.conformance.senders import Senders, source_words, totals_of
 from afdx_tools.conformance.together import of_senders_alone, premises, sentence
 from afdx_tools.faults import Refused

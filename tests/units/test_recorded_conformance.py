@@ -16,7 +16,8 @@ from afdx_tools.conformance.judging import judged_of
 from afdx_tools.conformance.measuring import Measured, Pair, Stream
 from afdx_tools.conformance.numbers import Numbers
 from afdx_tools.conformance.options import Options
-from afdx_tools.conformance.recorded import Ends, Reading, Recorded, Recorders, Taps
+from afdx_tools.conformance.recorded import Ends, Reading, Recorded
+from afdx_tools.conformance.recorders import Recorders, Taps
 from afdx_tools.lists import check_sequence
 from afdx_tools.replay.checked import checked_of
 

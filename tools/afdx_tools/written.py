@@ -7,7 +7,6 @@ from __future__ import annotations
 
 import contextlib
 import re
-import tomllib
 
 LINE = re.compile(
     r"^(?:([a-z_]+) = (?:(0|[1-9][0-9]*)|"
@@ -47,4 +46,6 @@ def read_written(text: str) -> dict:
     if len(lines) == text.count("\n") + 1:
         with contextlib.suppress(LookupError, AttributeError):
             return tables_in(lines)
+    import tomllib  # seldom needed
+
     return tomllib.loads(text)

@@ -16,7 +16,8 @@ from afdx_tools.conformance.options import conform_options
 from afdx_tools.faults import Refused, shown
 from afdx_tools.known import counts_of
 from afdx_tools.program import program
-from afdx_tools.report.criteria import OF_SWITCHES, add_conforms, judged, status_of, suite_of
+from afdx_tools.report.criteria import OF_SWITCHES, judged, status_of
+from afdx_tools.report.junit import add_conforms, suite_of
 from afdx_tools.tables import Row
 
 # options of replays, with what they are where not given

@@ -11,7 +11,7 @@ from afdx_tools.campaign.outcomes import Outcome, not_run, outcome_of, sum_row
 from afdx_tools.campaign.rounds import Attempt
 from afdx_tools.campaign.runs import Run
 from afdx_tools.recordings.options import handed_on
-from afdx_tools.report.criteria import suite_of
+from afdx_tools.report.junit import suite_of
 from afdx_tools.tables import Row
 
 

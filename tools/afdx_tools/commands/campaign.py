@@ -50,7 +50,8 @@ from afdx_tools.outputs import whole
 from afdx_tools.placing import clear
 from afdx_tools.program import program, version
 from afdx_tools.recordings.options import add_recording_words
-from afdx_tools.report.criteria import CRITERIA, add_words, write_junit
+from afdx_tools.report.criteria import CRITERIA, add_words
+from afdx_tools.report.junit import write_junit
 from afdx_tools.tables import as_text, csv_text
 
 TOOL = "afdx-campaign"

@@ -9,7 +9,7 @@ from typing import Iterable, NamedTuple, Protocol, Sequence
 from afdx_tools.faults import Failed, shown
 from afdx_tools.known import counts_of, kinds, of_senders
 from afdx_tools.program import program
-from afdx_tools.recordings.tapped import SENDERS
+from afdx_tools.recordings.options import SENDERS
 
 SKIPPED = "skipped "  # how the line of what was skipped begins
 APART = "apart "  # and that of what the tables leave for a link's copies

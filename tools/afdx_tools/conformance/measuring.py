@@ -9,7 +9,7 @@ from afdx_tools.config import MOST_PORTS, Config, Link
 from afdx_tools.conformance.frames import Frame
 from afdx_tools.conformance.judging import Line
 from afdx_tools.conformance.options import Options
-from afdx_tools.conformance.recorded import Taps
+from afdx_tools.conformance.recorders import Taps
 
 MILLION = 1_000_000
 SIDES = "AB"

@@ -6,10 +6,9 @@ from dataclasses import dataclass, replace
 from typing import Mapping, Sequence
 
 from afdx_tools.command_line import whole
-from afdx_tools.conformance.recorded import Recorders
+from afdx_tools.conformance.recorders import Recorders
 from afdx_tools.faults import Refused
-from afdx_tools.recordings.options import recording_options
-from afdx_tools.recordings.tapped import SENDERS
+from afdx_tools.recordings.options import SENDERS, recording_options
 
 LATEST = 10**15
 MOST_APART = 100_000_000

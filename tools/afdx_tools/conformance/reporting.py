@@ -20,7 +20,8 @@ from afdx_tools.conformance.numbers import Numbers, totals_of
 from afdx_tools.conformance.options import Options
 from afdx_tools.conformance.page import COUNTED, PROVED, is_judged, page, shown_in
 from afdx_tools.conformance.proposals import Proposals
-from afdx_tools.conformance.recorded import Ends, Reading, Recorded, Taps
+from afdx_tools.conformance.recorded import Ends, Reading, Recorded
+from afdx_tools.conformance.recorders import Taps
 from afdx_tools.conformance.senders import Senders, source_words
 from afdx_tools.conformance.senders import totals_of as totals_of_senders
 from afdx_tools.conformance.text import print_text
@@ -37,7 +38,7 @@ from afdx_tools.recordings.options import is_recording
 from afdx_tools.recordings.tapped import asked_for, found_by
 from afdx_tools.replay.running import check
 from afdx_tools.report.cover import Cover
-from afdx_tools.report.criteria import add_conforms, suite_of, write_junit
+from afdx_tools.report.junit import add_conforms, suite_of, write_junit
 from afdx_tools.report.made import digest, run_of
 from afdx_tools.report.where import utc
 from afdx_tools.tables import VERSION, WRITTEN, Row, csv_text

@@ -10,6 +10,7 @@ from afdx_tools.faults import Refused
 HEADS = frozenset(
     bytes.fromhex(head) for head in ("d4c3b2a1", "a1b2c3d4", "4d3cb2a1", "a1b23c4d", "0a0d0d0a")
 )
+SENDERS = "--senders"  # the word of `conform` that judges the systems by what they sent
 WRITER_CODE, WRITER = 4, b"afdx-capture annotate"  # an option of a section: who wrote it
 
 # packed files, by gzip, bzip2, zstd, xz and zip: a fault of a recording

@@ -10,7 +10,7 @@ from afdx_tools.config import MOST_PORTS, Config, port_at, read_config
 from afdx_tools.faults import LONGEST_NAME, Failed, Refused, cut, shown
 from afdx_tools.progress import Progress
 from afdx_tools.recordings.interfaces import OTHERS, Interface, interfaces_of
-from afdx_tools.recordings.options import is_packed
+from afdx_tools.recordings.options import SENDERS, is_packed
 from afdx_tools.recordings.taps import (
     IN,
     NONE,
@@ -29,7 +29,6 @@ from afdx_tools.recordings.taps import (
 SENDER = b"\x02\0\0"  # a source address of an end system begins with it
 DISAGREE = 3  # the status where recording and table don't agree
 FEW = 3  # places that are named of frames that contradict theirs
-SENDERS = "--senders"  # the word of `conform` that judges the systems by what they sent
 
 
 class Tapped(NamedTuple):

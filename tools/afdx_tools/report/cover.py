@@ -3,7 +3,6 @@ from __future__ import annotations
 
 import datetime
 import hashlib
-import tomllib
 from html import escape
 from typing import Sequence
 
@@ -28,6 +27,8 @@ class Cover:
         if len(text) > MOST_BYTES:
             raise self.wrong(f"it has more than {MOST_BYTES:,} bytes")
         self.digest = hashlib.sha256(text).hexdigest()
+        import tomllib  # seldom needed
+
         try:
             self.tree = tomllib.loads(text.decode("utf-8-sig"))
             self.content = self.all()

@@ -15,7 +15,6 @@ from afdx_tools.report.lanes import lanes
 from afdx_tools.report.paper import cut_words, file_of, on_paper
 from afdx_tools.report.parts import section, table, table_section
 from afdx_tools.report.ranking import FEWEST, latencies_of
-from afdx_tools.report.several import hops_section, network_section
 from afdx_tools.report.where import Where
 from afdx_tools.report.whole import FIND, NEAREST, first_words, links_of, one_each, whole_page
 from afdx_tools.tables import (
@@ -52,7 +51,11 @@ def latency_section(report: Row, counting: Counting, most: int) -> str:
     if report["admission"] != "ok":
         words += f" {UNPROMISED}"
     shown = section("picture", head, words, figures.latencies(pairs[:most], name))
-    return shown + (hops_section(counting, pairs, most) if "ways" in report else "")
+    if "ways" not in report:
+        return shown
+    from afdx_tools.report.several import hops_section
+
+    return shown + hops_section(counting, pairs, most)
 
 
 def track_sections(counting: Counting, args: argparse.Namespace) -> str:
@@ -101,7 +104,10 @@ def arrivals_section(report: Row) -> str:
 def pictures(report: Row, counting: Counting, args: argparse.Namespace) -> str:
     """All pictures."""
     parts = [arrivals_section(report), latency_section(report, counting, args.rows)]
-    parts += [network_section(report, counting, args)] if "ways" in report else []
+    if "ways" in report:
+        from afdx_tools.report.several import network_section
+
+        parts.append(network_section(report, counting, args))
     if report["latency"]:
         words = "How near the copies came to their link's configured latency, sides A and B apart."
         shares = figures.histogram(report["histogram"])

@@ -33,14 +33,12 @@ from afdx_tools.replay.sites import Sites
 from afdx_tools.report import numbers
 from afdx_tools.report.compare import compared, other_report, words_of
 from afdx_tools.report.cover import Cover
-from afdx_tools.report.criteria import judged, status_of, suite_of, write_junit
+from afdx_tools.report.criteria import judged, status_of
 from afdx_tools.report.findings import findings_of
 from afdx_tools.report.lanes import arrivals_of
 from afdx_tools.report.made import header
 from afdx_tools.report.page import page
 from afdx_tools.report.ranking import FEWEST, late_ones, latencies_of, latency_text, nearest
-from afdx_tools.report.switches import line_rows, switch_rows
-from afdx_tools.report.ways import receiver_rows, way_rows
 from afdx_tools.report.where import Where
 from afdx_tools.tables import (
     COUNTED,
@@ -98,6 +96,9 @@ def several_of(counting: Counting, checked: Checked, copied: Copied) -> Row:
     """The tables of several switches a side."""
     if counting.config.several is None:
         return {}
+    from afdx_tools.report.switches import line_rows, switch_rows
+    from afdx_tools.report.ways import receiver_rows, way_rows
+
     _, queues = counting.queues
     return {
         "ways": way_rows(counting, checked),
@@ -206,6 +207,15 @@ def source_of(args: argparse.Namespace, progress: Progress) -> Iterator[Source]:
         yield Source(config, paths, options, of_replay, taps)
 
 
+def write_suite(
+    args: argparse.Namespace, name: str, fault: str, totals: Row | None, findings: list[Row]
+) -> None:
+    """Writes the run as JUnit's XML."""
+    from afdx_tools.report.junit import suite_of, write_junit
+
+    write_junit(args.junit, [suite_of(name, fault, totals, args.fail_on, findings)])
+
+
 def run_report(tool: str, args: argparse.Namespace) -> int:
     """Makes the report; the status."""
     keep_memory()
@@ -220,7 +230,7 @@ def run_report(tool: str, args: argparse.Namespace) -> int:
             report, counting, where = report_of(args, source, cover, progress)
     except Failed as error:
         if args.junit:
-            write_junit(args.junit, [suite_of(name, str(error), None, args.fail_on)])
+            write_suite(args, name, str(error), None, [])
         raise
     finally:
         progress.done()
@@ -231,10 +241,7 @@ def run_report(tool: str, args: argparse.Namespace) -> int:
         texts = {**files_of(report), "report.html": page(report, counting, where, args)}
         write_folder(as_file(args.out or "report"), texts, WRITTEN)
     if args.junit:
-        suite = suite_of(
-            name, report["fault"], report["totals"], args.fail_on, report["findings"]
-        )
-        write_junit(args.junit, [suite])
+        write_suite(args, name, report["fault"], report["totals"], report["findings"])
     if args.json:
         print(json.dumps(report))
     else:
