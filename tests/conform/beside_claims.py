@@ -1,5 +1,5 @@
 """What must hold of a judge of a switch and of its systems in one run, on lists and recordings made
-at random."""
+at random; and of its systems alone, on recordings."""
 from __future__ import annotations
 
 import random
@@ -8,6 +8,7 @@ from conform_claims import WAYS, Judge
 from conform_terms import SENDERS
 from program import Wrong, answers, must
 from recorded_cases import all_keys, seen_in
+from recorded_forms import Key
 from recorded_judge import RecordingJudge, of_links
 from sender_claims import ALONE, BASE, OUTPUT, WIRE, changed, words_of
 from sender_made import right
@@ -82,10 +83,33 @@ def beside_recorded(judge: Judge, seed: int, count: int) -> None:
             raise Wrong(f"case {case} of seed {seed}, {pair.words}: {wrong}") from None
 
 
+def alone_recorded(judge: Judge, seed: int, count: int) -> None:
+    """What is recorded of some input ports is judged as the list, of which these were seen."""
+    for case in range(count):
+        chance = random.Random(f"{seed} {case} alone, recorded")
+        made = right(chance)
+        pair = of_links(Pair(BASE, changed(chance, made), b"", words_of(made.options)))
+        keys = [key for key in all_keys(pair, seen_in(pair)) if not key[0] and key != FREE]
+        missing = chance.choice([FREE, FREE, (False, 1, 1), chance.choice(keys)])
+        places = [FREE, *(key for key in keys if key != missing)]
+
+        def seen(side: int, port: int, at: tuple[Key, ...] = tuple(places)) -> bool:
+            return (False, side, port) in at
+
+        wanted = conform_senders(BASE, pair.came, None, pair.words, seen)
+        found = RecordingJudge(judge, True, places, is_absent=True).answer(pair)
+        try:
+            answers(found, wanted.status, wanted.out, b"")
+        except Wrong as wrong:
+            raise Wrong(f"case {case} of seed {seed}, {pair.words}: {wrong}") from None
+
+
 def beside_random_cases(judge: Judge, who: str, seeds: range, count: int) -> list[tuple]:
     """What a program must answer of both, if it judges both."""
     if judge.program is None or judge.program.knows("conform", ALONE):
         return []
     tried = {"made at random": beside_alike, "recorded": beside_recorded}
-    return [(f"{who}, beside its systems: {name}, {seed}", call, judge, seed, count)
+    tried = {f"beside its systems: {name}": call for name, call in tried.items()}
+    tried["its systems alone, recorded"] = alone_recorded
+    return [(f"{who}, {name}, {seed}", call, judge, seed, count)
             for name, call in tried.items() for seed in seeds]

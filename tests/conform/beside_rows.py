@@ -1,5 +1,6 @@
-"""Lists of what came to a switch and what left it, spelled out, with what `conform --senders` must
-answer of the switch and of the systems that sent.
+"""Lists and recordings of what came to a switch and what left it, spelled out, with what
+`conform --senders` must answer of the switch and of the systems that sent; and recordings of what
+came alone.
 
 Lines are spelled as in sender_rows.py, what left too; there a frame of side B has the address of
 that side. The last line is spelled by its numbers: `2/0/0/0/2` is explained, open, uncertain, left
@@ -7,13 +8,15 @@ out, idle, and `2/0/0` is sent, cut, alone.
 """
 from __future__ import annotations
 
+import shlex
 from typing import NamedTuple
 
 from program import Answer
-from recorded_rows import HERE, RecordedRow, one, packet
+from recorded_cases import RecordedCase
+from recorded_rows import HERE, RecordedRow, X, one, packet
 from recording_rows import IL9, SL
 from rows import Row
-from sender_rows import AFT, FWD, digits
+from sender_rows import AFT, FWD, SENDER_CONFIGS, SenderRow, digits
 
 COUNTS = " sent {} cut {} alone {}\n"
 
@@ -45,6 +48,19 @@ class BesideRecorded(NamedTuple):
     def answer(self) -> Answer:
         """What must be answered."""
         return with_systems(self.row.answer(), self.sent)
+
+
+class AloneRecorded(NamedTuple):
+    """A row of senders alone, of which a recording has what came."""
+
+    row: SenderRow
+    data: tuple[str, ...]
+
+    def case(self) -> RecordedCase:
+        """Its configuration, recordings and words."""
+        words = ("--senders", *shlex.split(self.row.options))
+        data = tuple(map(bytes.fromhex, self.data))
+        return RecordedCase(SENDER_CONFIGS[self.row.config], data, words)
 
 
 BOTH, BOTH_LEFT = "0 00 / 0 00 B", "F 6720 A 3 G1 / F 6720 B 3 G1"
@@ -111,4 +127,34 @@ BESIDE_RECORDED = (
                                options="--senders --interface '0=A fwd:1' --left 1=A:3"), ""),
     BesideRecorded(RecordedRow("no interface of what came", ONE_OF_BOTH, "", "",
                                "words BadInterface", options="--senders --left 1=A:3"), ""),
+)
+
+G1_OF_B, ON_A = digits("G1", "B"), "--interface 0=A:1"
+ON_BOTH = f"{ON_A} --interface 1=B:1"
+BOTH_SENT = one((0, 0, G1_HEX), (1, 100, G1_OF_B))
+ALONE_RECORDED = (
+    AloneRecorded(SenderRow("both networks", ON_BOTH, "", "", "2/0/1"), BOTH_SENT),
+    AloneRecorded(SenderRow("one network, with what is no frame", ON_A, "", "", "1/0/2"),
+                  one((0, 0, G1_HEX), (0, 5, X))),
+    AloneRecorded(SenderRow("each says its sender", "--interface 0=A --interface 1=B", "", "",
+                            "2/0/0"), BOTH_SENT),
+    AloneRecorded(SenderRow("further apart, by a slow stamp", f"{ON_BOTH} --apart 99", "",
+                            "apart 2 B 1 1", "1/0/1"), BOTH_SENT),
+    AloneRecorded(SenderRow("plugged crosswise", "--interface 0=B:1 --interface 1=A:1", "",
+                            "unlawful 1 B 1 not-its-address / unlawful 2 A 1 not-its-address",
+                            "0/0/1"), BOTH_SENT),
+    AloneRecorded(SenderRow("a switch of two", f"--switch fwd {ON_BOTH}", "", "", "2/0/0",
+                            config="two"), BOTH_SENT),
+    AloneRecorded(SenderRow("a switch of two, without a port", "--switch fwd --interface 0=A", "",
+                            "", "", "words BadInterface", "two"), BOTH_SENT),
+    AloneRecorded(SenderRow("stamps, and no interface", "--stamps end", "", "", "",
+                            "words BadInterface"), BOTH_SENT),
+    AloneRecorded(SenderRow("an interface twice", "--interface 0=A:1 --interface 0=B:1", "", "",
+                            "", "words BadInterface"), BOTH_SENT),
+    AloneRecorded(SenderRow("an interface that isn't there", f"{ON_A} --interface 7=B:1", "", "",
+                            "", "recording Absent 7"), BOTH_SENT),
+    AloneRecorded(SenderRow("times that go back", f"{ON_A} --reorder 0", "", "", "",
+                            "recording TimeBack 2"), one((0, 100, G1_HEX), (0, 0, G1_HEX))),
+    AloneRecorded(SenderRow("nothing came", ON_A, "", "", "", "recording NoArrival 1"),
+                  one((1, 0, G1_HEX))),
 )

@@ -4,9 +4,10 @@ from __future__ import annotations
 
 from collections.abc import Iterator
 
+import tables as made
 from conform_claims import Judge
 from conform_terms import SENDERS
-from frames import number_of, raw_line
+from frames import frame_of, number_of, raw_line
 from one_switch import MS
 from program import answers
 from sender_claims import NOTHING, answer_of
@@ -93,9 +94,31 @@ def numbers_in_blocks(judge: Judge, count: int) -> None:
     told.are_told(judge, 0, 1)
 
 
+def largest_tables(judge: Judge) -> None:
+    """Frames of 4,096 links on both networks; then those of one network are missing."""
+    tables = made.largest_tables()
+    lists: list[list[bytes]] = [[], []]
+    for link in tables["link"]:
+        system = made.system_named(tables, link["from"])
+        for side, listed in zip(SIDES, lists):
+            content = frame_of(system, link["vl"], 1000, b"x", 0, side)
+            listed.append(raw_line(0, side, system["port"], content))
+    config, (on_a, on_b) = made.text_of(tables), lists
+    ports = [made.system_named(tables, link["from"])["port"] for link in tables["link"]]
+    single = [f"single {line} A {port}\n" for port, line in sorted(zip(ports, range(1, 4097)))]
+    words, numbers = (SENDERS, "--until", str(2 * HOLD)), NOTHING.replace("4", f"{2 * 23 * 4096}")
+    last = f"conforms{numbers}sent 8192 cut 0 alone 0\n"
+    found = answer_of(judge, b"".join(on_a + on_b), None, words, config)
+    answers(found, 0, last.encode(), b"")
+    last = f"deviates 4096{numbers}sent 0 cut 0 alone 0\n"
+    found = answer_of(judge, b"".join(on_a), None, words, config)
+    answers(found, 5, ("".join(single) + last).encode(), b"")
+
+
 def hostile_senders(judge: Judge) -> Iterator[tuple]:
     """What is tried of many frames of one moment; what is quadratic takes too long."""
     for case in (other_side_missing, one_side_first, first_copy_missing, one_number,
                  numbers_in_blocks):
         for count in (1_024, 500_000):
             yield f"conform --senders: {count} at one moment, {case.__name__}", case, judge, count
+    yield "conform --senders: the largest tables", largest_tables, judge

@@ -3,7 +3,8 @@ from __future__ import annotations
 
 import random
 
-from beside_rows import BESIDE_RECORDED, BESIDE_ROWS, BesideRecorded, BesideRow
+from beside_rows import ALONE_RECORDED, BESIDE_RECORDED, BESIDE_ROWS, AloneRecorded
+from beside_rows import BesideRecorded, BesideRow
 from conform_claims import FILES, Judge
 from conform_terms import SENDERS, Options
 from frames import raw_line, sealed
@@ -11,10 +12,11 @@ from program import Answer, answers, must
 from recorded_cases import RecordedCase
 from recorded_claims import answer_to
 from rows import CONFIGS
-from sender_made import KINDS_AMISS, SIDES, Recording, amiss, is_right, right, small
+from sender_made import SIDES, Recording, is_right, right, small
 from sender_made import small_recording
 from sender_rows import SENDER_CONFIGS, SENDER_ROWS, SenderRow, list_of
 from senders import conform_senders
+from wrong_senders import CONFIG, PLACES, WRONG_SENDERS, Sending, Wrong
 
 BASE = SENDER_CONFIGS["base"]
 # of several switches those at whose fwd link 1's system stands, at port 1
@@ -61,6 +63,12 @@ def beside_recorded_holds(judge: Judge, each: BesideRecorded) -> None:
     answers(answer_to(judge, case), wanted.status, wanted.out, wanted.err)
 
 
+def alone_recorded_holds(judge: Judge, each: AloneRecorded) -> None:
+    """It answers as the row spells out of a recording of what came."""
+    wanted, found = each.row.answer(), answer_to(judge, each.case())
+    answers(found, wanted.status, wanted.out, wanted.err)
+
+
 def words_of(options: Options) -> tuple[str, ...]:
     """The words of options."""
     words = [SENDERS]
@@ -86,19 +94,23 @@ def right_senders_conform(judge: Judge, seed: int, count: int) -> None:
     """A right sender is never accused, whatever its clock, its stamps and its spacing."""
     for case in range(count):
         made = right(random.Random(f"{seed} {case} sender"))
-        found, sent = made_answer(judge, made), len(made.frames)
+        found, sent = made_answer(judge, made), len(made.within())
         verdict = "conforms" if sent else "undecided"
         must(found.out.decode().startswith(f"{verdict}{NOTHING}sent {sent} cut "),
              f"case {case}: {found}")
 
 
-def amiss_is_found(judge: Judge) -> None:
-    """One thing amiss has the lines of its kind, and no other."""
-    for kind in KINDS_AMISS:
-        for at in (10, 11, 30):
-            *lines, _ = made_answer(judge, amiss(kind, at)).out.decode().splitlines()
-            words = {line.split()[0] for line in lines}
-            must(words == set((kind.__doc__ or "").split()), f"{kind.__name__}: {lines}")
+def wrong_are_found(judge: Judge, wrong: Wrong) -> None:
+    """Of what is amiss just its frames are found, each by its line."""
+    for side in (0, 1):
+        for at in PLACES:
+            sent = Sending()
+            findings = list(wrong(sent, side, at))
+            found = answer_of(judge, sent.text(), None, words_of(sent.options), CONFIG)
+            *lines, last = found.out.decode().splitlines()
+            must(sorted(lines) == sorted(sent.lines(findings)) and found.status == 5
+                 and last.startswith(f"deviates {len(findings)}{NOTHING}"),
+                 f"at {SIDES[side]} {at}: {lines}, wanted {sent.lines(findings)}")
 
 
 def senders_are_exact(judge: Judge, seed: int, count: int) -> None:
@@ -187,7 +199,12 @@ def sender_cases(judge: Judge, who: str, seeds: range, count: int) -> list[tuple
     cases: list[tuple] = [(f"{who}, senders: {row.name}", sender_row_holds, judge, row)
                           for row in SENDER_ROWS]
     cases += beside_cases(judge, who)
-    cases.append((f"{who}, senders: one thing amiss", amiss_is_found, judge))
+    if judge.program is not None:
+        cases += [(f"{who}, senders, recorded: {each.row.name}", alone_recorded_holds, judge, each)
+                  for each in ALONE_RECORDED]
+    for wrong in WRONG_SENDERS:
+        cases.append((f"{who}, senders: {(wrong.__doc__ or '').strip()}", wrong_are_found, judge,
+                      wrong))
     for seed in seeds:
         cases.append((f"{who}, senders: right ones, {seed}", right_senders_conform, judge, seed,
                       count))

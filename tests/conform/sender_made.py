@@ -1,10 +1,9 @@
 """What a right system sends of link 1 of the base tables on both networks, as recorders would write
-it; such a recording with one thing amiss; and whether a few frames are those of a right system, by
-trying all."""
+it; and whether a few frames are those of a right system, by trying all."""
 from __future__ import annotations
 
 import random
-from collections.abc import Callable, Iterator
+from collections.abc import Iterator
 from typing import NamedTuple
 
 from conform_terms import MILLION, Options
@@ -27,10 +26,15 @@ class Recording(NamedTuple):
     until: int
     frames: list[Heard]
 
+    def within(self) -> list[Heard]:
+        """The frames that aren't passed over."""
+        return [each for each in self.frames
+                if self.options.begin(False) <= each.time <= self.until]
+
     def source(self) -> Source:
         """What is found of it."""
         return Source(SourceTerms(LINK, SYSTEM["id"], [WAY], self.options, self.until, True),
-                      self.frames)
+                      self.within())
 
 
 def frame(place: int, side: int, payload: bytes = b"hello") -> bytes:
@@ -76,7 +80,8 @@ def sent(chance: random.Random, count: int, apart: int) -> list[tuple[int, int, 
 
 
 def right(chance: random.Random) -> Recording:
-    """A right system, from a message on, recorded from one time to another."""
+    """A right system, from a message on, recorded from one time to another by recorders that start
+    and stop apart."""
     slack, drift = chance.choice([(0, 0), (1_000, 0), (0, 1_000), (500, 300)])
     given = chance.choice([None, None, 0, 100_000, 100_000_000])
     apart = WAY.leaves(64) if given is None else given
@@ -90,73 +95,11 @@ def right(chance: random.Random) -> Recording:
     until = clock[chance.choice(times)] + chance.choice([0, chance.randint(0, 3 * BAG)])
     stamped = [(clock[time] + chance.randint(-slack, slack), side, frame(first + place, side))
                for time, side, place in all_sent]
-    kept = [each for each in stamped if (start or 0) <= each[0] <= until]
+    begins = [(start or 0) - chance.choice([0, 0, chance.randint(0, 9 * BAG)]) for _ in SIDES]
+    ends = [until + chance.choice([0, 0, chance.randint(0, 9 * BAG)]) for _ in SIDES]
+    kept = [each for each in stamped if begins[each[1]] <= each[0] <= ends[each[1]]]
     options = Options(slack=slack, drift=drift, start=start, until=until, apart=given)
     return Recording(options, until, listed(kept))
-
-
-# ---- one thing amiss -----------------------------------------------------------------------------
-
-
-def steady(count: int = 20) -> list[tuple[int, int, bytes]]:
-    """Messages a BAG apart, on both sides at one time."""
-    return [(place * BAG, side, frame(place, side)) for place in range(count) for side in (0, 1)]
-
-
-Amiss = Callable[[list[tuple[int, int, bytes]], int], None]
-
-
-def lost(frames: list[tuple[int, int, bytes]], at: int) -> None:
-    """single number"""
-    del frames[at]
-
-
-def late(frames: list[tuple[int, int, bytes]], at: int) -> None:
-    """apart soon"""
-    time, side, content = frames[at]
-    frames[at] = time + WAY.leaves(64) + 1, side, content
-
-
-def early(frames: list[tuple[int, int, bytes]], at: int) -> None:
-    """soon"""
-    time, side, content = frames[at]
-    frames[at] = time - JITTER - 1, side, content
-
-
-def other(frames: list[tuple[int, int, bytes]], at: int) -> None:
-    """differs"""
-    time, side, content = frames[at]
-    place = content[-5]
-    frames[at] = time, side, frame(place, side, b"hullo")
-
-
-def crossed(frames: list[tuple[int, int, bytes]], at: int) -> None:
-    """unlawful"""
-    time, side, content = frames[at]
-    frames[at] = time, side, frame(content[-5], 1 - side)
-
-
-def damaged(frames: list[tuple[int, int, bytes]], at: int) -> None:
-    """unlawful single number"""
-    time, side, content = frames[at]
-    frames[at] = time, side, content[:-1] + bytes([content[-1] ^ 1])
-
-
-def renumbered(frames: list[tuple[int, int, bytes]], at: int) -> None:
-    """number single"""
-    time, side, content = frames[at]
-    frames[at] = time, side, frame(content[-5] + 100, side)
-
-
-KINDS_AMISS: tuple[Amiss, ...] = (lost, late, early, other, crossed, damaged, renumbered)
-
-
-def amiss(kind: Amiss, at: int) -> Recording:
-    """Messages of which one frame is amiss. The recordings end long behind them."""
-    frames = steady()
-    kind(frames, at)
-    until = 40 * BAG
-    return Recording(Options(until=until), until, listed(frames))
 
 
 # ---- trying all ----------------------------------------------------------------------------------

@@ -206,10 +206,11 @@ def senders_answer(senders: Senders, judged: Judging, taken: Taken, is_alone: bo
 
 
 def conform_senders(
-    config: bytes, came: bytes, left: bytes | None = None, words: tuple[str, ...] = ()
-) -> Answer:
+    config: bytes, came: bytes, left: bytes | None = None, words: tuple[str, ...] = (),
+    seen: Seen = seen_all,
+) -> Answer:  # fmt: skip
     """What `conform --senders` answers of a configuration, what came, and what left; without that
-    the senders alone are judged."""
+    the senders alone are judged, at the ports that were recorded."""
     options = options_of(words)
     if options is None:
         return BAD_NUMBER
@@ -218,5 +219,5 @@ def conform_senders(
         return tables
     taken = taken_of(came, left or b"")
     judged = Judging(tables, options, taken)
-    senders = senders_by(config, tables, options, judged, taken)
+    senders = senders_by(config, tables, options, judged, taken, seen)
     return senders_answer(senders, judged, taken, left is None)

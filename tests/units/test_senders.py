@@ -8,7 +8,8 @@ import sys
 import unittest
 
 TESTS = os.path.join(os.path.dirname(os.path.abspath(__file__)), "..")
-sys.path[:0] = [os.path.join(TESTS, name) for name in ("lib", "conform", "cascades")]
+sys.path[:0] = [os.path.join(TESTS, name) for name in ("lib", "conform", "cascades", "fuzzing",
+                                                       "recordings")]
 
 import rows as plain  # noqa: E402
 import tables as made  # noqa: E402
@@ -16,11 +17,14 @@ from cascade import cascade_text  # noqa: E402
 from cascade_run import Places, arrivals_of  # noqa: E402
 from conform import conform  # noqa: E402
 from conform_terms import Options  # noqa: E402
-from sender_made import KINDS_AMISS, amiss, is_right, right, small  # noqa: E402
+from conform_claims import JUDGED  # noqa: E402
+from sender_claims import wrong_are_found  # noqa: E402
+from sender_made import is_right, right, small  # noqa: E402
 from sender_made import small_recording  # noqa: E402
 from sender_rows import SENDER_CONFIGS, SENDER_ROWS, digits, list_of  # noqa: E402
 from sender_source import Way, further_on, step  # noqa: E402
 from senders import Senders, conform_senders, switches_of, ways_of  # noqa: E402
+from wrong_senders import WRONG_SENDERS  # noqa: E402
 
 BASE = plain.CONFIGS["base"]
 
@@ -112,13 +116,13 @@ class Made(unittest.TestCase):
         for seed in range(200):
             made = right(random.Random(seed))
             found = made.source()
-            self.assertEqual((found.told, found.sent), ([], len(made.frames)), seed)
+            self.assertEqual((found.told, found.sent), ([], len(made.within())), seed)
 
-    def test_one_thing_amiss_has_its_lines(self) -> None:
-        for kind in KINDS_AMISS:
-            for at in (10, 11, 30):
-                words = {told.word for told in amiss(kind, at).source().told}
-                self.assertEqual(words, set((kind.__doc__ or "").split()), kind.__name__)
+    def test_wrong_systems_are_found_by_their_frames(self) -> None:
+        self.assertGreater(len(WRONG_SENDERS), 20)
+        for wrong in WRONG_SENDERS:
+            with self.subTest(wrong.__doc__):
+                wrong_are_found(JUDGED, wrong)
 
     def test_nothing_is_found_exactly_of_what_a_right_system_may_send(self) -> None:
         outcomes = set()
