@@ -5,12 +5,13 @@ import functools
 import json
 import math
 import re
-from typing import Iterator, Sequence
+from typing import Callable, Iterator, Sequence
 
 from afdx_tools.columns import columns_of
 from afdx_tools.faults import shown
 
 Row = dict
+NONE = type(None)
 VERSION = 1  # of the form of report.json, which docs/report.schema.json describes
 NAMES = {
     "silences": "Silences: which network, system or link, on which side, from when to when",
@@ -102,11 +103,21 @@ def kinds_of(values: Sequence) -> set[type]:
     return {*map(type, values)}
 
 
+def filled(texts_of: Callable[[Sequence], list[str]], values: Sequence, none: str) -> list[str]:
+    """The texts of the values that are there, in their places; `none` where there is none."""
+    texts = iter(texts_of([value for value in values if value is not None]))
+    return [none if value is None else next(texts) for value in values]
+
+
 def cells_of(values: Sequence) -> list[str]:
     """The values of a column as they stand in a table."""
     kinds = kinds_of(values)
+    if NONE in kinds:
+        return filled(cells_of, values, "-")
     if kinds == {int}:
         return list(map(str, values))
+    if kinds == {dict}:
+        return [cell(value) if value else "-" for value in values]
     if kinds == {float}:
         return list(map(percent, values))
     if kinds == {str} and "".join(values).isprintable():
@@ -126,7 +137,7 @@ def heads(rows: Sequence[Row]) -> list[str]:
 
 def by_column(rows: Sequence[Row]) -> Iterator[tuple[str, Sequence]]:
     """The columns of a table: of each its name and its values."""
-    return zip(heads(rows), zip(*(row.values() for row in rows)))
+    return zip(heads(rows), zip(*map(dict.values, rows)))
 
 
 def even(name: str, values: Sequence) -> tuple[str, list[str]]:
@@ -166,6 +177,10 @@ def quoted(value: str) -> str:
 def plains(values: Sequence) -> list[str]:
     """The values of a column as they stand in a CSV file."""
     kinds = kinds_of(values)
+    if NONE in kinds:
+        return filled(plains, values, "")
+    if kinds == {dict}:
+        return [plain(value) if value else "" for value in values]
     if kinds <= {int, float}:
         return list(map(str, values))
     if kinds == {str}:

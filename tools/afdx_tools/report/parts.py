@@ -8,7 +8,7 @@ from typing import Callable, Collection, Sequence
 
 from afdx_tools.known import findings
 from afdx_tools.report.where import Where, named_in
-from afdx_tools.tables import Row, by_column, cell, cells_of, heads, kinds_of
+from afdx_tools.tables import NONE, Row, by_column, cell, cells_of, filled, heads, kinds_of
 
 MOST_ROWS = 10_000  # of a table on a page
 LONG = 60  # rows that don't find room in a box
@@ -95,10 +95,12 @@ def share_of(row: Row) -> float:
 def words_in(name: str, values: Sequence) -> list[str]:
     """The values of a column as they stand on the page."""
     kinds = kinds_of(values)
-    if is_plain(name) or kinds <= {str, float}:
+    if is_plain(name) or not any(issubclass(kind, int) for kind in kinds):
         return cells_of(values)
     if kinds == {int}:
         return [f"{value:,}" for value in values]
+    if NONE in kinds:
+        return filled(functools.partial(words_in, name), values, "-")
     return [f"{value:,}" if isinstance(value, int) else cell(value) for value in values]
 
 
