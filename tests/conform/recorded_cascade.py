@@ -63,16 +63,20 @@ class RecordedCascade:
         ends = self.switches[name]["neighbour"]
         return next(end["port"] for end in ends if end["name"] == other)
 
+    def hop(self, name: str, row: dict) -> HopSwitch:
+        """A switch with a link's row."""
+        return HopSwitch(self.switches[name], row, self.options, self.chance)
+
     def run(self, name: str, vl: int, coming: list[Arriving]) -> None:
         """What comes to a switch, of a link; and all that follows behind it."""
-        row = self.ways.rows[name, vl]
-        hop = HopSwitch(self.switches[name], row, self.options, self.chance)
+        hop = self.hop(name, self.ways.rows[name, vl])
         hop.run(coming)
         systems = {end["port"] for end in self.switches[name]["system"]}
         self.edges.came.extend(self.lines(name, hop.came, systems))
         self.edges.left.extend(self.lines(name, hop.left, systems))
         for port, other in hop.cables.items():
-            gone = [Arriving(moment, side, self.back(other, name), bytes.fromhex(words[2:]))
+            back = self.back(other, name)
+            gone = [Arriving(moment, side, back, bytes.fromhex(words[2:]), words[0])
                     for moment, side, at, words in hop.left if at == port]  # fmt: skip
             if gone:
                 self.run(other, vl, gone)
