@@ -1,3 +1,4 @@
 pub mod HeldLemmas
 pub mod PlaceLemmas
 pub mod CallLemmas
+pub mod HeardLemmas

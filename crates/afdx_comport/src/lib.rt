@@ -6,6 +6,7 @@
 
 mod com_ports;
 mod fault;
+mod heard;
 mod held;
 pub mod laws;
 
