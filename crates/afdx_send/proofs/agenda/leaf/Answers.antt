@@ -5,5 +5,5 @@ use Rattle.afdx_send.proofs.agenda.leaf.Goals as goal
 
 pub returns-in-Some : goal.returns-in-Some
 returns-in-Some c =
-    in_leaf c.in-Some.time c.args.place c.requires
+    in_leaf c.in-Some.time c.args.place c.requires.place c.requires.limit
     ∙ ap (λ o. option_map (next_with c.args.place) o) (sym c.in-Some.is)
