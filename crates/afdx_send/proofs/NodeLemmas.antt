@@ -2,7 +2,6 @@
 use Rattle.std.proofs.Common.{◌≡◌, ℕ, ◌+◌, ◌*◌, ◌/◌, ◌%◌, ◌<◌, ◌≤◌, ◌==◌, Bool, true, false, Option, Some, None, inl, inr, refl, ap, ap₂, arith, ◌∙◌}
 use Rattle.std.specs.Prelude.{if◌then◌else◌}
 use Rattle.std.proofs.lemmas.Bool.{eqb-true, eq-eqb}
-use Rattle.afdx_port.specs.Times.{latest_put}
 use Rattle.afdx_send.specs.Agenda.{IsAhead, IsSooner, next_with}
 use Rattle.afdx_send.specs.Nodes.{IsNode, greatest, rank_of, release_in}
 use Rattle.afdx_send.specs.declared.agenda.NextRelease.{NextRelease}
@@ -31,13 +30,21 @@ ranked key below = by (key == greatest) refl
 -- ---- the release that a number says
 
 module _ (key : ℕ) where
-  pub in_none : (key == greatest) ≡ true → release_in key ≡ None
+  pub in_none : key ≡ greatest → release_in key ≡ None
   unfolding release_in
-  in_none is = ap (λ (b : Bool). if b then None else Some (next_with (key % 4096) (key / 4096))) is
+  in_none is = ap (λ (b : Bool). if b then None else Some (next_with (key % 4096) (key / 4096)))
+      (eq-eqb key greatest is)
 
-  pub in_some : (key == greatest) ≡ false → release_in key ≡ Some (next_with (key % 4096) (key / 4096))
+  more : (key ≡ greatest → ⊥) → (key == greatest) ≡ false
+  more other = by (key == greatest) refl
+    where
+      by : (b : Bool) → (key == greatest) ≡ b → b ≡ false
+      by true is = absurd (other (eqb-true key greatest is))
+      by false is = refl
+
+  pub in_some : (key ≡ greatest → ⊥) → release_in key ≡ Some (next_with (key % 4096) (key / 4096))
   unfolding release_in
-  in_some is = ap (λ (b : Bool). if b then None else Some (next_with (key % 4096) (key / 4096))) is
+  in_some other = ap (λ (b : Bool). if b then None else Some (next_with (key % 4096) (key / 4096))) (more other)
 
 quotient : (time place : ℕ) → place < 4096 → (time * 4096 + place) / 4096 ≡ time
 quotient time place small = omega (arith, small)
@@ -45,15 +52,11 @@ quotient time place small = omega (arith, small)
 rest : (time place : ℕ) → place < 4096 → (time * 4096 + place) % 4096 ≡ place
 rest time place small = omega (arith, small)
 
-pub in_leaf : (time place : ℕ) → place < 4096 → time ≤ latest_put
+pub in_leaf : (time place : ℕ) → place < 4096 → time ≤ 1000032768000000
     → release_in (time * 4096 + place) ≡ Some (next_with place time)
 in_leaf time place small early =
-    in_some (time * 4096 + place) (by (time * 4096 + place == greatest) refl)
+    in_some (time * 4096 + place) (λ is. omega (arith, is, small, early))
     ∙ ap₂ (λ (n m : ℕ). Some (next_with m n)) (quotient time place small) (rest time place small)
-  where
-    by : (b : Bool) → (time * 4096 + place == greatest) ≡ b → b ≡ false
-    by true is = absurd (let e = eqb-true (time * 4096 + place) greatest is in omega (arith, e, small, early))
-    by false is = refl
 
 pub in_last : release_in greatest ≡ None
 in_last = in_none greatest refl

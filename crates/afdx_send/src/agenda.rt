@@ -48,6 +48,14 @@ pub(crate) struct ReleaseAgenda {
     nodes: Vec<Node>,
 }
 
+/// The number itself, which has 64 bits.
+fn number(key: u64) -> u64
+    ensures same { result ≡ key }
+    ensures fits { key < 0x10000000000000000 }
+{
+    key
+}
+
 impl Node {
     /// No release.
     fn none() -> Node
@@ -61,7 +69,7 @@ impl Node {
         ensures rank { result ≡ rank_of self.now }
         ensures small { IsNode self.now }
     {
-        self.key
+        number(self.key)
     }
 
     /// Another of the same.

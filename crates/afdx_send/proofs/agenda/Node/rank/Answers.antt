@@ -1,8 +1,10 @@
+use Rattle.std.proofs.Common.{◌∙◌}
 use Rattle.afdx_send.proofs.NodeLemmas.{ranked}
 use Rattle.afdx_send.proofs.agenda.Node.rank.Goals as goal
 
 pub returns-clause-rank : goal.returns-clause-rank
-returns-clause-rank c = rw (← c.self.view_is) ((ranked c.self.inside.key c.self.inside.ok.0).rank)
+returns-clause-rank c = rw (← c.self.view_is)
+    (c.number.ensures.same ∙ (ranked c.self.inside.key c.number.ensures.fits).rank)
 
 pub returns-clause-small : goal.returns-clause-small
-returns-clause-small c = rw (← c.self.view_is) ((ranked c.self.inside.key c.self.inside.ok.0).small)
+returns-clause-small c = rw (← c.self.view_is) ((ranked c.self.inside.key c.number.ensures.fits).small)
