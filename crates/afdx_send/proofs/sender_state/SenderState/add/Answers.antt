@@ -48,7 +48,7 @@ set-requires-clause-limit c =
     let line = c.index_mut.result.now in
     let line' : SystemLink = record line { regulator = c.push.new.self } in
     let has = read_at w.lines.items c.args.place line c.requires.place c.index_mut.ensures.value in
-    let read = c.index.ensures ∙ get_or-set_same w.lines.items c.args.place line' c.index.result.now c.requires.place in
+    let read = c.index.ensures ∙ get_or-set_same w.lines.items c.args.place _ c.index.result.now c.requires.place in
     let next = c.next_time-next.ensures ∙ ap (λ l. next_time_of l.regulator) read in
     subst (λ (o : Option ℕ). IfSome o (λ t. t ≤ 1000032768000000)) (sym next)
     (added_limit w c.requires.sound.0 c.args.place c.args.index line line' c.args.message c.requires.sound.1 has
