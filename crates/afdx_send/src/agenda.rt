@@ -1,9 +1,10 @@
 //! The soonest of several releases, found by a tournament.
 
-ghost use Rattle.std.specs.Prelude.{◌≡◌, ℕ, ◌+◌, ◌*◌, ◌<◌, ◌≤◌, ◌↔◌, ◌==◌, ◌&&◌, IsTrue, false, List, Option, Some, None, IfOk, MatchOption, option_map, length, replicate, slice_set, vec_len};
+ghost use Rattle.std.specs.Prelude.{◌≡◌, ℕ, ◌+◌, ◌*◌, ◌<◌, ◌≤◌, ◌↔◌, IsTrue, false, List, Option, Some, None, IfOk, IfSome, MatchOption, option_map, length, replicate, slice_set, vec_len};
 ghost use Rattle.afdx_config.specs.Reading.{most_links};
+ghost use Rattle.afdx_port.specs.Times.{latest_put};
 ghost use Rattle.afdx_send.specs.Agenda.{IsSooner, IsPlayed, IsSoonest, NoneBefore, nexts, next_with};
-ghost use Rattle.afdx_send.specs.Nodes.{IsNode, greatest, rank_of};
+ghost use Rattle.afdx_send.specs.Nodes.{IsNode, rank_of};
 
 use std::alloc::{AllocError, Global};
 use std::marker::Model;
@@ -15,11 +16,14 @@ pub(crate) struct NextRelease {
     pub(crate) place: usize,
 }
 
-/// A node: when a link's next release is, or that it has none. Then both numbers are the greatest.
+/// So many places stand behind a time.
+const PLACES: u64 = 4096;
+
+/// A node: when a link's next release is, or that it has none, as one number. The greatest says
+/// that there is none; else the last 12 bits are the place, and those before them the time.
 #[derive(Debug, Drop)]
 pub(crate) struct Node {
-    time: u64,
-    place: usize,
+    key: u64,
 }
 
 impl Model for Node {
@@ -30,7 +34,7 @@ impl Model for Node {
 
     ghost use Rattle.afdx_send.specs.Nodes.{release_in};
 
-    ghost view = { λ n. release_in n.time n.place };
+    ghost view = { λ n. release_in n.key };
 }
 
 /// When each link's next release is, kept so that the soonest of all is at hand: a tournament.
@@ -44,20 +48,12 @@ pub(crate) struct ReleaseAgenda {
     nodes: Vec<Node>,
 }
 
-/// A time with a place behind it.
-fn joined(time: u64, place: usize) -> u128
-    ensures sum { result ≡ time * 0x10000000000000000 + place }
-    ensures time { time < 0x10000000000000000 }
-    ensures place { place < 0x10000000000000000 }
+/// The number itself, which has 64 bits.
+fn number(key: u64) -> u64
+    ensures same { result ≡ key }
+    ensures fits { key < 0x10000000000000000 }
 {
-    u128::from(time) * 0x1_0000_0000_0000_0000 + place as u128
-}
-
-/// Whether these two numbers say that there is no release.
-fn is_none(time: u64, place: usize) -> bool
-    ensures { result ≡ (time == greatest && place == greatest) }
-{
-    time == u64::MAX && place == usize::MAX
+    key
 }
 
 impl Node {
@@ -65,40 +61,34 @@ impl Node {
     fn none() -> Node
         ensures { result ≡ None }
     {
-        Node {
-            time: u64::MAX,
-            place: usize::MAX,
-        }
+        Node { key: u64::MAX }
     }
 
     /// What it goes by.
-    fn rank(&self) -> u128
+    fn rank(&self) -> u64
         ensures rank { result ≡ rank_of self.now }
         ensures small { IsNode self.now }
     {
-        joined(self.time, self.place)
+        number(self.key)
     }
 
     /// Another of the same.
     fn again(&self) -> Node
         ensures { result ≡ self.now }
     {
-        Node {
-            time: self.time,
-            place: self.place,
-        }
+        Node { key: self.key }
     }
 
     /// The release, if there is one.
     fn release(&self) -> Option<NextRelease>
         ensures { result ≡ self.now }
     {
-        if is_none(self.time, self.place) {
+        if self.key == u64::MAX {
             return None;
         }
         Some(NextRelease {
-            time: self.time,
-            place: self.place,
+            time: self.key / PLACES,
+            place: (self.key % PLACES) as usize,
         })
     }
 }
@@ -121,11 +111,14 @@ fn is_same(a: &Node, b: &Node) -> bool
 
 /// The node of a link.
 fn leaf(time: Option<u64>, place: usize) -> Node
-    requires { place < most_links }
+    requires place { place < most_links }
+    requires limit { IfSome time (λ t. t ≤ latest_put) }
     ensures { result ≡ option_map (next_with place) time }
 {
     match time {
-        Some(time) => Node { time, place },
+        Some(time) => Node {
+            key: time * PLACES + place as u64,
+        },
         None => Node::none(),
     }
 }
@@ -162,6 +155,7 @@ impl ReleaseAgenda {
     pub(crate) fn set(&mut self, place: usize, time: Option<u64>)
         requires played { IsPlayed self.old }
         requires place { place < self.old.count }
+        requires limit { IfSome time (λ t. t ≤ latest_put) }
         ensures played { IsPlayed self.new }
         ensures set { nexts self.new ≡ slice_set (nexts self.old) place time }
         ensures count { self.new.count ≡ self.old.count }
