@@ -1,6 +1,6 @@
 -- Where the arrivals of recordings came in: at ports that the options say, or the bytes of frames do.
 use Rattle.std.specs.Option.{option_or}
-use Rattle.std.proofs.Common.{◌≡◌, ◌+◌, ℕ, List, [], ◌∷◌, ◌++◌, length, take, drop, refl, ap, sym, ◌∙◌, subst}
+use Rattle.std.proofs.Common.{◌≡◌, ◌+◌, ℕ, List, [], ◌∷◌, ◌++◌, length, take, refl, ap, sym, ◌∙◌, subst}
 use Rattle.std.proofs.Common.{◌⊎◌, inl, inr, Bool, true, false, not, Option, Some, None, Result, Ok, Err}
 use Rattle.afdx_frame.specs.declared.by_side.BySide.{BySide}
 use Rattle.afdx_frame.specs.declared.link.Side.{Side}
@@ -56,7 +56,7 @@ use Rattle.afdx_input_sources.specs.Sequences.{Numbers, Outcome, and_then, as_re
 use Rattle.afdx_input_sources.specs.Sequences.{numbers_read, read_of_items, with_number}
 use Rattle.afdx_input_sources.specs.Taking.{late_of_both, late_of_one}
 use Rattle.afdx_input_sources.specs.Timing.{Timed, line_by, origin_in, timed}
-use Rattle.afdx_input_sources.proofs.EachLemmas.{Each, each-all, each-append, each-behind, each-handed}
+use Rattle.afdx_input_sources.proofs.EachLemmas.{Each, each-all, each-behind, each-handed}
 use Rattle.afdx_input_sources.proofs.EachLemmas.{each-both, each-more}
 use Rattle.afdx_input_sources.proofs.SequenceLemmas.{sorts-first}
 use Rattle.afdx_input_sources.proofs.TimingLemmas.{timed-before}

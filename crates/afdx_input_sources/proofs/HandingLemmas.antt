@@ -1,5 +1,5 @@
 -- Numbers that are handed on in order: what one more does, and what all of them are.
-use Rattle.std.proofs.Common.{◌≡◌, ◌≤◌, ◌+◌, ◌-◌, min, max, ℕ, [], ◌∷◌, ◌++◌, length, take, drop}
+use Rattle.std.proofs.Common.{◌≡◌, ◌≤◌, ◌+◌, ◌-◌, ℕ, [], ◌∷◌, ◌++◌, length, take, drop}
 use Rattle.std.proofs.Common.{refl, ap, sym, ◌∙◌, subst}
 use Rattle.std.proofs.Common.{Bool, true, false, nat_lt, if◌then◌else◌, Option, Some, None, arith}
 use Rattle.std.proofs.Common.{append_assoc, take-append-drop, length-append, length-drop, length-take}
@@ -11,7 +11,7 @@ use Rattle.afdx_input_sources.specs.declared.hold.Hold.TheVariants.{Within, Live
 use Rattle.afdx_input_sources.specs.declared.number.Number.{Number}
 use Rattle.afdx_input_sources.specs.declared.number.Number.TheVariants.{Arrival, Skipped}
 use Rattle.afdx_input_sources.specs.Ordering.{Forward, all_handed, arrivals_only, forward, forward_next, goes_back, handed_on, hands_on}
-use Rattle.afdx_input_sources.specs.Ordering.{held_behind, held_of, in_order, is_past, later_among, moment_of, newest_stamp, put_among}
+use Rattle.afdx_input_sources.specs.Ordering.{held_behind, held_of, in_order, later_among, moment_of, newest_stamp, put_among}
 use Rattle.afdx_input_sources.specs.OrderedSteps.{is_late_by}
 use Rattle.afdx_input_sources.specs.Sequences.{Numbers, is_arrival, latest_of, moment_or}
 use Rattle.afdx_input_sources.proofs.KeptLemmas.{drop-own, fewer-held, held-own, later-held, one-held}
@@ -269,15 +269,29 @@ module _ (hold : Hold) where
       let due = drop n (Held past) in
       let all = ap (λ (l : Numbers). length l) (skipped-handed hold x past is) in
       let le = fewer x past is in
-      omega (arith, h, le, all, length-append (due ++ x ∷ []) (handed_on hold past), length-append due (x ∷ []),
-      length-drop n (Held past))
+      omega (
+        arith,
+        h,
+        le,
+        all,
+        length-append (due ++ x ∷ []) (handed_on hold past),
+        length-append due (x ∷ []),
+        length-drop n (Held past),
+      )
   few-more x past true is h =
       let n = Count (x ∷ past) in
       let more = put_among x (Held past) in
       let all = ap (λ (l : Numbers). length l) (arrival-handed hold x past is) in
       let le = no-more x past is in
-      omega (arith, h, le, all, length-append (drop n more) (handed_on hold past), length-drop n more,
-      length-put x (Held past))
+      omega (
+        arith,
+        h,
+        le,
+        all,
+        length-append (drop n more) (handed_on hold past),
+        length-drop n more,
+        length-put x (Held past),
+      )
 
   few-parts : (past : Numbers) → Count past + length (handed_on hold past) ≤ length past
   unfolding handed_on in_order

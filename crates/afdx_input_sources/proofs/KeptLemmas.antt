@@ -1,16 +1,16 @@
 -- Which arrivals are held: the latest ones, and one more at most behind one number more.
-use Rattle.std.proofs.Common.{◌≡◌, ◌<◌, ◌≤◌, ◌+◌, ◌-◌, ◌&&◌, min, ℕ, suc, zero, [], ◌∷◌, ◌++◌, length, take, drop}
-use Rattle.std.proofs.Common.{refl, ap, sym, ◌∙◌, subst, Bool, true, false, nat_lt, nat_le, if◌then◌else◌, arith, length-take}
+use Rattle.std.proofs.Common.{◌≡◌, ◌<◌, ◌≤◌, ◌+◌, ◌-◌, ◌&&◌, ℕ, suc, zero, [], ◌∷◌, ◌++◌, length, take, drop}
+use Rattle.std.proofs.Common.{refl, ap, sym, ◌∙◌, subst, Bool, true, false, nat_le, if◌then◌else◌, arith, length-take}
 use Rattle.std.proofs.lemmas.Bool.{cond_both, ltb-false}
 use Rattle.std.proofs.lemmas.Bool.Decides.{nat_tests}
 use Rattle.afdx_input_sources.specs.Engine.{Item}
 use Rattle.afdx_input_sources.specs.declared.hold.Hold.{Hold}
 use Rattle.afdx_input_sources.specs.declared.hold.Hold.TheVariants.{Within, Live}
 use Rattle.afdx_input_sources.specs.declared.number.Number.{Number}
-use Rattle.afdx_input_sources.specs.Ordering.{held_of, is_back, is_later, is_past, is_reached, later_among, moment_of}
+use Rattle.afdx_input_sources.specs.Ordering.{held_of, is_back, is_later, is_reached, later_among, moment_of}
 use Rattle.afdx_input_sources.specs.Ordering.{newest_stamp, put_among, unreached}
 use Rattle.afdx_input_sources.specs.Sequences.{Numbers, is_arrival}
-use Rattle.afdx_input_sources.proofs.SortingLemmas.{Falls, first_moment, later-yes, length-put, none-later, take-falls}
+use Rattle.afdx_input_sources.proofs.SortingLemmas.{Falls, later-yes, length-put, none-later, take-falls}
 
 -- ---- tests of the clock
 
@@ -69,8 +69,11 @@ module _ (ns newest : ℕ) (x : Item Number) (early : newest - ns ≤ moment_of 
   later-unreached (y ∷ s) f =
       cond_both (is_reached ns newest (moment_of y)) [] (y ∷ unreached ns newest s)
       (λ (l : Numbers). later_among x (y ∷ s) ≤ length l)
-      (λ is. omega (arith, none-later x (y ∷ s) f (let k = reached-yes ns newest (moment_of y) is in
-      omega (arith, k, early))))
+      (λ is. omega (
+        arith,
+        none-later x (y ∷ s) f (let k = reached-yes ns newest (moment_of y) is in
+            omega (arith, k, early)),
+      ))
       (λ is. by (is_later y x) refl (later-unreached s f.2))
     where
       by : (t : Bool) → is_later y x ≡ t → later_among x s ≤ length (unreached ns newest s)

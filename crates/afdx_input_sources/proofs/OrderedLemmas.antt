@@ -1,6 +1,6 @@
 -- A source of numbers in order: one step more.
-use Rattle.std.proofs.Common.{◌≡◌, ◌≤◌, ◌<◌, ℕ, suc, zero, List, [], ◌∷◌, ◌++◌, append_assoc, length, length-append, take, drop}
-use Rattle.std.proofs.Common.{refl, ap, sym, ◌∙◌, subst, Bool, true, false, ◌⊎◌, inl, inr, arith, length-take, max}
+use Rattle.std.proofs.Common.{◌≡◌, ℕ, suc, zero, List, [], ◌∷◌, ◌++◌, append_assoc, length, length-append, take, drop}
+use Rattle.std.proofs.Common.{refl, ap, sym, ◌∙◌, subst, Bool, true, false, inl, inr, arith, length-take, max}
 use Rattle.std.proofs.Math.Seq.{take-append_seam}
 use Rattle.std.proofs.lemmas.List.{append-nil, nil_from_length}
 use Rattle.std.proofs.lemmas.List.Sorted.{IsPermutation-sym, IsPermutation-trans}
@@ -10,14 +10,14 @@ use Rattle.afdx_input_sources.specs.declared.hold.Hold.{Hold}
 use Rattle.afdx_input_sources.specs.declared.hold.Hold.TheVariants.{Within, Live}
 use Rattle.afdx_input_sources.specs.declared.number.AsRead.{AsRead}
 use Rattle.afdx_input_sources.specs.declared.number.Number.{Number}
-use Rattle.afdx_input_sources.specs.Holding.{ComesFirst, IsFirst}
+use Rattle.afdx_input_sources.specs.Holding.{ComesFirst}
 use Rattle.afdx_input_sources.specs.NumberLines.{NumberFollows, ReadFollows}
 use Rattle.afdx_input_sources.specs.OrderedSource.{AreForward, AreHeld, AreLeft}
-use Rattle.afdx_input_sources.specs.OrderedSteps.{HasFirst, IsDue, IsNoneDue, is_late_by}
+use Rattle.afdx_input_sources.specs.OrderedSteps.{IsDue, IsNoneDue, is_late_by}
 use Rattle.afdx_input_sources.specs.Ordering.{all_handed, goes_back, handed_on, held_behind, held_of, in_order, is_reached, moment_of}
 use Rattle.afdx_input_sources.specs.Ordering.{newest_stamp, put_among, stamp_of, unreached}
 use Rattle.afdx_input_sources.specs.Sequences.{Numbers, is_arrival, latest_of, moment_or, number_read, numbers_read}
-use Rattle.afdx_input_sources.proofs.FallingLemmas.{IsFalling, falling-take, first-is-last, left-handed, order-falls}
+use Rattle.afdx_input_sources.proofs.FallingLemmas.{falling-take, first-is-last, left-handed, order-falls}
 use Rattle.afdx_input_sources.proofs.FallingLemmas.{permutes-length, permutes-none, put-permutes}
 use Rattle.afdx_input_sources.proofs.HandingLemmas.{AreOrdered, all-few, arrival-handed, arrival-parts, back-is, fits-more}
 use Rattle.afdx_input_sources.proofs.HandingLemmas.{handed-ordered, ordered-behind, put-held, skipped-handed}
@@ -134,7 +134,8 @@ module _ (hold : Hold) (read : List (Item AsRead)) (x : Item AsRead) (f : AreFor
         most = h.most;
         due = due;
         are_held = subst (λ (xs : Numbers). IsPermutation held (take h.most xs)) (sym same) h.are_held;
-        parts = ap (λ (xs : Numbers). take h.most xs) same ∙ all-held held past h none ∙ (skipped-parts hold X Nums e).0;
+        parts = ap (λ (xs : Numbers). take h.most xs) same ∙ all-held held past h none
+            ∙ (skipped-parts hold X Nums e).0;
         handed = ap (λ (xs : Numbers). due ++ X ∷ xs) (all-handed held past h none)
             ∙ sym (append_assoc due (X ∷ []) (handed_on hold Nums)) ∙ sym (skipped-handed hold X Nums e);
       }
@@ -146,7 +147,8 @@ module _ (hold : Hold) (read : List (Item AsRead)) (x : Item AsRead) (f : AreFor
   hold-held held held' past a back p h none =
       let more = put_among X WasHeld in
       let due = drop Count more in
-      let first : take (length more) (in_order (X ∷ Nums)) ≡ more = ap (λ (xs : Numbers). take (length more) xs) (put-held hold X Nums a back)
+      let first : take (length more) (in_order (X ∷ Nums)) ≡ more =
+      ap (λ (xs : Numbers). take (length more) xs) (put-held hold X Nums a back)
       ∙ take-append_seam more (drop (length WasHeld) (in_order Nums)) in
       let was : IsPermutation held WasHeld =
       subst (λ (xs : Numbers). IsPermutation held xs) (all-held held past h none) h.are_held in record {
@@ -191,7 +193,8 @@ module _ (hold : Hold) (read : List (Item AsRead)) (f : AreForward hold read) (h
   last-held : (y : Item Number) (rest : List (Item Number)) → IsPermutation held (y ∷ rest) → ComesFirst y rest
       → (front : List (Item Number)) × (Firsts ≡ front ++ y ∷ []) × IsPermutation rest front
   last-held y rest p first =
-      first-is-last Firsts held y rest (falling-take h.most Sorted (order-falls read f.few f.numbered)) h.are_held p first
+      first-is-last Firsts held y rest (falling-take h.most Sorted (order-falls read f.few f.numbered)) h.are_held p
+      first
 
   -- nothing is due
   pub due-none : (newest : ℕ) → newest ≡ newest_stamp (numbers_read read) → IsNoneDue hold newest held → h.due ≡ []
@@ -275,7 +278,8 @@ module _ (hold : Hold) (read : List (Item AsRead)) (f : AreForward hold read) wh
       let falls = falling-take h.most s (order-falls read f.few f.numbered) in
       let last = first-is-last (take h.most s) held y held' falls h.are_held p first in
       let k = left-handed h.most s last.0 y last.1 in
-      let handed = sym (append_assoc last.0 (y ∷ []) past) ∙ ap (λ (xs : Numbers). xs ++ past) (sym last.1) ∙ h.handed in
+      let handed = sym (append_assoc last.0 (y ∷ []) past) ∙ ap (λ (xs : Numbers). xs ++ past) (sym last.1)
+      ∙ h.handed in
       record {
         left = record {
           most = length last.0;

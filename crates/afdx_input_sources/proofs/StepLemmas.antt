@@ -1,6 +1,6 @@
 -- What a source of numbers in order gives in one step, from the source that it reads.
 use Rattle.std.proofs.Common.{◌≡◌, ◌≤◌, ◌<◌, ◌+◌, ℕ, List, [], ◌∷◌, ◌++◌, length, refl, ap, sym, ◌∙◌, subst, arith}
-use Rattle.std.proofs.Common.{Some, None, Ok, Err, IfErr, Result, Bool, true, false, inl, inr, ◌⊎◌, max}
+use Rattle.std.proofs.Common.{None, Ok, Err, IfErr, Result, Bool, true, false, inl, inr, ◌⊎◌, max}
 use Rattle.afdx_input_lines.specs.declared.fault.RunFault.{RunFault}
 use Rattle.afdx_input_lines.specs.declared.fault.RunFault.TheVariants as run
 use Rattle.afdx_input_lines.specs.declared.recording_fault.RecordingFault.{RecordingFault}
@@ -81,7 +81,8 @@ module _ {S I : Type 0} (current : S → Item AsRead) (gave ended : I → S → 
   module _ (start : I) (mid : Ordered S) (input : I) (past : Numbers) (reading : mid.stage ≡ Reading)
       (read : List (Item AsRead)) (f : AreForward mid.hold read) (latest : mid.latest ≡ latest_of past)
       (newest : mid.newest ≡ newest_stamp (numbers_read read)) (h : AreHeld mid.hold read mid.held past)
-      (none-due : IsNoneDue mid.hold mid.newest mid.held) (gave_one : gave start mid.source input (current mid.source ∷ read))
+      (none-due : IsNoneDue mid.hold mid.newest mid.held)
+      (gave_one : gave start mid.source input (current mid.source ∷ read))
       (follows : ReadFollows read (current mid.source)) where
     abbrev X : Item AsRead
     X = current mid.source
@@ -359,7 +360,8 @@ module _ {S : Type 0} (left_of : S → ℕ) (old : Ordered S) (s : S) (reading :
 
   pub took-step : TakesIn x Mid new (Ok progress.NotYet) → steps_left left_of new < steps_left left_of old
   took-step (inl p) =
-      let k : steps_left left_of (record Mid { newest = newest_with x Mid; held = p.held; last = None }) ≡ left_of s + 1 =
+      let k : steps_left left_of (record Mid { newest = newest_with x Mid; held = p.held; last = None })
+      ≡ left_of s + 1 =
       ap (λ (t : Stage). steps_by t (left_of s)) reading in
       subst (λ (o : Ordered S). steps_left left_of o < steps_left left_of old) (sym p.new_is)
       (omega (arith, k, steps-is, less))

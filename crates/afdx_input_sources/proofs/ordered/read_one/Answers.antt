@@ -11,8 +11,8 @@ returns-in-Ok-Given-clause-given g c start past h ok =
     let r = is-reading S.current S.Gave S.Ended S.Stopped start old c.args.input.now past c.requires.reading h in
     let item = c.in-Ok-Given.ensures.item start r.read r.gave_them (search rules) in
     let k = took-one S.current S.Gave S.Ended S.Stopped start (record old { source = c.next.new.self })
-    c.next.new.input past c.requires.reading r.read r.are_forward r.latest r.newest r.are_held c.requires.none_due item.0 item.1
-    c.take_in.new.ordered
+    c.next.new.input past c.requires.reading r.read r.are_forward r.latest r.newest r.are_held c.requires.none_due
+    item.0 item.1 c.take_in.new.ordered
     (rw ok at c.take_in.ensures) in (k.gave_them, k.follows)
 
 pub returns-in-Ok-Given-clause-none : goal.returns-in-Ok-Given-clause-none
@@ -22,8 +22,8 @@ returns-in-Ok-Given-clause-none g c start past h ok =
     let r = is-reading S.current S.Gave S.Ended S.Stopped start old c.args.input.now past c.requires.reading h in
     let item = c.in-Ok-Given.ensures.item start r.read r.gave_them (search rules) in
     took-none S.current S.Gave S.Ended S.Stopped start (record old { source = c.next.new.self })
-    c.next.new.input past c.requires.reading r.read r.are_forward r.latest r.newest r.are_held c.requires.none_due item.0 item.1
-    c.take_in.new.ordered
+    c.next.new.input past c.requires.reading r.read r.are_forward r.latest r.newest r.are_held c.requires.none_due
+    item.0 item.1 c.take_in.new.ordered
     (rw ok at c.take_in.ensures)
 
 pub returns-in-Ok-Given-clause-stop : goal.returns-in-Ok-Given-clause-stop
