@@ -28,11 +28,12 @@ pub record IsUnread (source : OrderedRecording) : Type 0 where
   pub arrival : source.source.has_arrival ≡ false
   pub held : source.held ≡ []
   pub latest : source.latest ≡ 0
+  pub newest : source.newest ≡ 0
   pub stage : source.stage ≡ Reading
 
--- so many arrivals may come late, as the options say
+-- arrivals are held as long as the options say
 abbrev pub IsSetInOrder : OrderedRecording → Type 0
-IsSetInOrder source = source.most ≡ source.source.options.reorder
+IsSetInOrder source = source.hold ≡ source.source.options.hold
 
 -- the number that was given last
 abbrev pub number_taken : OrderedRecording → Item Number

@@ -21,9 +21,9 @@ pub fn read_in_order(
     ensures order { IfOk result IsSetInOrder }
     ensures unread { IfOk result IsUnread }
 {
-    let most = options.reorder;
+    let hold = options.hold;
     let recording = ReadRecording::new(alloc, options, ports)?;
-    Ok(Ordered::new(alloc, recording, most))
+    Ok(Ordered::new(alloc, recording, hold))
 }
 
 impl Ordered<ReadRecording> {

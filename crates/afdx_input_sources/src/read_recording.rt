@@ -10,10 +10,10 @@ ghost use Rattle.afdx_input_sources.specs.RecordingSource as source;
 ghost use Rattle.afdx_input_sources.specs.RecordingSource.{FailsBy, RemembersOne};
 ghost use Rattle.afdx_input_sources.specs.Sequences.{Numbers};
 
-use crate::becoming::{NoArrival, RecordingOptions, becomes, first_bytes};
+use crate::becoming::{NoArrival, RecordingOptions, becomes, first_bytes, stamp_in};
 use crate::counts::{SkipCounts, Tally};
 use crate::engine::Source;
-use crate::number::{AsRead, Number};
+use crate::number::{AsRead, Number, PassedOver};
 use crate::senders::SystemPorts;
 use crate::skipped::Skipped;
 use afdx_input_files::FrameReader;
@@ -70,7 +70,10 @@ impl ReadRecording {
             counts: SkipCounts::none(),
             has_arrival: false,
             number: AsRead {
-                becomes: Number::Skipped(Skipped::NoFrame),
+                becomes: Number::Skipped(PassedOver {
+                    reason: Skipped::NoFrame,
+                    stamp: None,
+                }),
             },
         })
     }
@@ -128,7 +131,8 @@ impl ReadRecording {
             }
             Err(NoArrival::Skipped(reason)) => {
                 self.counts.skip(reason);
-                self.number.becomes = Number::Skipped(reason);
+                let stamp = stamp_in(&recorded);
+                self.number.becomes = Number::Skipped(PassedOver { reason, stamp });
                 Ok(())
             }
             Err(NoArrival::Faulted(fault)) => Err(RunFault::Recording(fault)),
