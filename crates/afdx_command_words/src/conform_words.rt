@@ -59,12 +59,12 @@ by no more than the options say. The tables of CONFIG need not be admitted.
 
 One input, or one of --interface, --left, --fcs, --stamps, --reorder, --live and
 --lossy, says that each input is a recording. Of one input --interface and --left name
-interfaces of it, of two those of CAME and those of LEFT. What others recorded is left out. Only links
-of which the sender's port and an output port were recorded are judged there. Time 0 is
-the moment of the first frame. The last line doesn't come where a recording has no
-interface K of --interface or --left: the fault is 'recording Absent K'. Nor does it
-where a recorder lost N frames by its own word: 'recording Lossy N', unless --lossy is
-given.
+interfaces of it, of two those of CAME and those of LEFT. What others recorded is left
+out. Only links of which the sender's port and an output port were recorded are judged
+there. Time 0 is the moment of the first frame. The last line doesn't come where a
+recording has no interface K of --interface or --left: the fault is 'recording Absent
+K'. Nor does it where a recorder lost N frames by its own word: 'recording Lossy N',
+unless --lossy is given.
 
 CONFIG may describe several switches a side. --switch names the one that is judged;
 CAME then has all that came to it, from its systems and by its cables, and each

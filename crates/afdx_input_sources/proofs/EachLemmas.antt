@@ -76,7 +76,8 @@ module _ (P : Item Number → Type 0) where
       (each-handed hold past h.1)
     where
       by : (t : Bool) (n : ℕ) → Each P (held_behind hold past)
-          → Each P (if t then drop n (put_among x (held_behind hold past)) else drop n (held_behind hold past) ++ x ∷ [])
+          → Each P (if t then drop n (put_among x (held_behind hold past))
+          else drop n (held_behind hold past) ++ x ∷ [])
       by true n held =
           each-drop P n (put_among x (held_behind hold past)) (each-put x (held_behind hold past) h.0 held)
       by false n held =

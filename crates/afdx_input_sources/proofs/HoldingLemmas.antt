@@ -106,7 +106,8 @@ late-top queue (y ∷ late) x leads top some below =
       are_held = subst (λ (z : Item Number). IsPermutation (queue ++ y ∷ late) (z ∷ (queue ++ late))) (sym top)
           (IsPermutation-middle queue y late);
       comes = All-append (λ z. rank x ≤ rank z) queue late
-          (subst (λ (z : Item Number). ComesFirst z queue) (sym top) leads) (All-tail (λ z. rank x ≤ rank z) y late first);
+          (subst (λ (z : Item Number). ComesFirst z queue) (sym top) leads)
+          (All-tail (λ z. rank x ≤ rank z) y late first);
     }
 
 queue-top : (queue late : List (Item Number)) (x : Item Number) → Leads queue late → AreRising queue

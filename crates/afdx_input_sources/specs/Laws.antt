@@ -47,7 +47,8 @@ ArrivalsAreTakenInOrder = (options : Options) (ports : Ports) (recording : Recor
 -- what is read of a recording is put in order in two ways, and by neither an arrival goes back: the
 -- same arrivals are taken at the same times, and the same fault stands behind them
 abbrev pub HoldsAgree : Type 0
-HoldsAgree = (said : Option ℕ) (place : ℕ → Option TapPoint) (outcome : Outcome) (one other : Hold) →
+HoldsAgree =
+    (said : Option ℕ) (place : ℕ → Option TapPoint) (outcome : Outcome) (one other : Hold) →
     (forward one outcome.numbers).back ≡ None → (forward other outcome.numbers).back ≡ None →
     (arrivals_in (taken_of said (ordered one place outcome))
     ≡ arrivals_in (taken_of said (ordered other place outcome)))
