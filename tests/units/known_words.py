@@ -2,8 +2,6 @@
 `ask_no_program` has the tools read it."""
 from __future__ import annotations
 
-from unittest import mock
-
 from afdx_tools import known
 
 DROPS = ("over-rate", "over-lmax", "under-lmin", "wrong-port")
@@ -32,5 +30,4 @@ called = known.listed  # which asks the program
 
 def ask_no_program() -> None:
     """From now on the tools read these words, where they would ask a program for them."""
-    if known.listed is called:
-        mock.patch("afdx_tools.known.listed", return_value=LISTED).start()
+    setattr(known, "listed", lambda: LISTED)  # (a patch might be stopped with those of a test)
