@@ -172,19 +172,19 @@ _afdx_takes() { # COMMAND : its options, and those that take a value
             ;;
         'afdx conform')
             options=(--slack --between --drift --inner --asked --from --until --leave-out \
-                --exercised --switch --senders --apart --interface --left --fcs --reorder --live \
+                --exercised --switch --senders --apart --interface --left --fcs --reorder \
                 --stamps --lossy --explain --line-buffered --progress --summary --help)
             valued=(--slack --between --drift --inner --asked --from --until --leave-out --switch \
-                --apart --interface --left --fcs --reorder --live --stamps)
+                --apart --interface --left --fcs --reorder --stamps)
             ;;
         'afdx explain')
             options=(--list --help)
             valued=()
             ;;
         'afdx list')
-            options=(--interface --fcs --origin --reorder --live --stamps --explain \
-                --line-buffered --progress --summary --help)
-            valued=(--interface --fcs --origin --reorder --live --stamps)
+            options=(--interface --fcs --origin --reorder --stamps --explain --line-buffered \
+                --progress --summary --help)
+            valued=(--interface --fcs --origin --reorder --stamps)
             ;;
         'afdx police')
             options=(--vl --port --lmin --policing --interface --fcs --origin --reorder --explain \
@@ -192,9 +192,9 @@ _afdx_takes() { # COMMAND : its options, and those that take a value
             valued=(--vl --port --lmin --policing --interface --fcs --origin --reorder)
             ;;
         'afdx replay')
-            options=(--no-admission --explain-drops --interface --fcs --origin --reorder --live \
-                --stamps --explain --line-buffered --progress --summary --help)
-            valued=(--interface --fcs --origin --reorder --live --stamps)
+            options=(--no-admission --explain-drops --interface --fcs --origin --reorder --stamps \
+                --explain --line-buffered --progress --summary --help)
+            valued=(--interface --fcs --origin --reorder --stamps)
             ;;
         'afdx send')
             options=(--explain --line-buffered --progress --summary --help)

@@ -59,10 +59,10 @@ end
 
 # printed by bin/pages
 set -g __afdx_valued --slack --between --drift --inner --asked --from --until --leave-out --switch \
-    --apart --interface --left --fcs --reorder --live --stamps --origin --vl --port --lmin \
-    --policing --keep --out -j --jobs -S --sshlogin --taps --fail-on --junit --slices --config -o \
-    --split --side --conform --cables --profile --reserve --since --link --rows --worst --compare \
-    --title --cover --seconds --seed
+    --apart --interface --left --fcs --reorder --stamps --origin --vl --port --lmin --policing \
+    --keep --out -j --jobs -S --sshlogin --taps --fail-on --junit --slices --config -o --split \
+    --side --conform --cables --profile --reserve --since --link --rows --worst --compare --title \
+    --cover --seconds --seed
 
 complete -c afdx -f
 complete -c afdx -n '__afdx_at - 0 0' -l help -d 'Print help and leave'
@@ -103,8 +103,6 @@ complete -c afdx -n '__afdx_in conform' -x -l fcs -a 'yes no' \
     -d 'Whether each recorded frame ends with its check sequence'
 complete -c afdx -n '__afdx_in conform' -x -l reorder \
     -d 'By how many frames times of a recording may go back'
-complete -c afdx -n '__afdx_in conform' -x -l live \
-    -d 'In the place of --reorder, of one recording'
 complete -c afdx -n '__afdx_in conform' -x -l stamps -a 'end start start-end end-start' \
     -d 'Whether recorders stamp the end of a frame'
 complete -c afdx -n '__afdx_in conform' -l lossy \
@@ -133,7 +131,6 @@ complete -c afdx -n '__afdx_in list' -x -l fcs -a 'yes no' \
 complete -c afdx -n '__afdx_in list' -x -l origin -d 'The moment of the recording that is time 0'
 complete -c afdx -n '__afdx_in list' -x -l reorder \
     -d 'By how many arrivals times of a recording may go back'
-complete -c afdx -n '__afdx_in list' -x -l live -d 'In the place of --reorder, of one recording'
 complete -c afdx -n '__afdx_in list' -x -l stamps -a 'end start' \
     -d 'Whether the recorder stamps the end of a frame'
 complete -c afdx -n '__afdx_in list' -l explain -a 'auto always never' \
@@ -185,7 +182,6 @@ complete -c afdx -n '__afdx_in replay' -x -l origin \
     -d 'The moment of the recording that is time 0'
 complete -c afdx -n '__afdx_in replay' -x -l reorder \
     -d 'By how many arrivals times of a recording may go back'
-complete -c afdx -n '__afdx_in replay' -x -l live -d 'In the place of --reorder, of one recording'
 complete -c afdx -n '__afdx_in replay' -x -l stamps -a 'end start' \
     -d 'Whether the recorder stamps the end of a frame'
 complete -c afdx -n '__afdx_in replay' -l explain -a 'auto always never' \

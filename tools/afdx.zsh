@@ -61,7 +61,6 @@ _afdx_takes() { # COMMAND
             '*--left=[Where the frames of interface K left]:k=place:' \
             '--fcs=[Whether each recorded frame ends with its check sequence]: :(yes no)' \
             '--reorder=[By how many frames times of a recording may go back]:n:' \
-            '--live=[In the place of --reorder, of one recording]:ms:' \
             '--stamps=[Whether recorders stamp the end of a frame]: :(end start start-end end-start)' \
             '--lossy[Gives the last line though a recorder lost frames by its own word]' \
             '--explain=-[When a fault is explained, behind its one line]:: :(auto always never)' \
@@ -83,7 +82,6 @@ _afdx_takes() { # COMMAND
             '--fcs=[Whether each frame of the recording ends with its check sequence]: :(yes no)' \
             '--origin=[The moment of the recording that is time 0]:ns:' \
             '--reorder=[By how many arrivals times of a recording may go back]:n:' \
-            '--live=[In the place of --reorder, of one recording]:ms:' \
             '--stamps=[Whether the recorder stamps the end of a frame]: :(end start)' \
             '--explain=-[When a fault is explained, behind its one line]:: :(auto always never)' \
             '--line-buffered[Hands the text of each line over at once]' \
@@ -120,7 +118,6 @@ _afdx_takes() { # COMMAND
             '--fcs=[Whether each frame of the recording ends with its check sequence]: :(yes no)' \
             '--origin=[The moment of the recording that is time 0]:ns:' \
             '--reorder=[By how many arrivals times of a recording may go back]:n:' \
-            '--live=[In the place of --reorder, of one recording]:ms:' \
             '--stamps=[Whether the recorder stamps the end of a frame]: :(end start)' \
             '--explain=-[When a fault is explained, behind its one line]:: :(auto always never)' \
             '--line-buffered[Hands the text of each line over at once]' \

@@ -16,7 +16,7 @@ from recorded_arrivals import Options as Recorded
 from recorded_list import COUNTS, LATEST_TIME, MOST_LOST, Ends, Source, line_of
 
 FLAGS = (EXERCISED, "--lossy", "--summary", "--line-buffered")
-OF_RECORDINGS = ("--interface", "--left", "--fcs", "--stamps", "--reorder", "--live", "--lossy")
+OF_RECORDINGS = ("--interface", "--left", "--fcs", "--stamps", "--reorder", "--lossy")
 NAMES = ("came", "left")  # of two recordings
 MOST_REORDER = 100_000
 

@@ -13,21 +13,20 @@ sys.path.insert(0, os.path.dirname(os.path.abspath(__file__)))
 from recorded import PCAPS, is_packed, is_recording  # noqa: E402
 
 # the two forms, the command that makes a list of one, two recordings at once, the options
-# `--reorder` and `--stamps`, `--live` of one recording, and of two
-WORDS = ("pcap", "pcapng", "list", "two", "reorder", "live", "live-two")
-NOW = "pcap,pcapng,list,two,reorder,live"  # what the program reads today
+# `--reorder` and `--stamps`, and `--live`
+WORDS = ("pcap", "pcapng", "list", "two", "reorder", "live")
+NOW = "pcap,pcapng,list,two,reorder"  # what the program reads today
 
 READS = frozenset(os.environ.get("AFDX_READS", NOW).split(",")) - {""}
 if not READS <= set(WORDS) or (READS and "pcap" not in READS):
     raise SystemExit(f"AFDX_READS is {','.join(WORDS)} or a part of it with pcap")
-for late in ("two", "reorder", "live", "live-two"):
+for late in ("two", "reorder", "live"):
     before = WORDS[: WORDS.index(late)]
     if late in READS and not READS.issuperset(before):
         raise SystemExit(f"AFDX_READS has {late} where it has {','.join(before)} too")
 
 ORDERS = "reorder" in READS
 LIVES = "live" in READS
-LIVES_TWO = "live-two" in READS
 HELD = 10_000 if ORDERS else 0  # N of `--reorder` where no word says it, nor `--line-buffered`
 
 

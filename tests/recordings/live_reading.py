@@ -11,7 +11,7 @@ from pair_reading import both_of_pair, pair_row_is_read
 from pair_wanted import PairCase, random_pair
 from program import Cases, Program, answers, must
 from reading import both, row_is_read
-from reads import LIVES, LIVES_TWO
+from reads import LIVES
 from recorded_arrivals import standing_in
 from recorded_list import Told
 from recorded_pair import NETWORKS
@@ -46,8 +46,7 @@ def many(program: Program, kind: str, group: int) -> None:
     """Recordings made at random."""
     for number in range(group * EACH, (group + 1) * EACH):
         both(program, live_case(kind, str(number)))
-        if LIVES_TWO:
-            both_of_pair(program, live_pair(kind, str(number)))
+        both_of_pair(program, live_pair(kind, str(number)))
 
 
 def arrivals(said: Told) -> list[bytes]:
@@ -101,15 +100,6 @@ def beside_list(program: Program) -> None:
     answers(found, 3, b"", b"recording NotRecording 0\n")
 
 
-def beside_second(program: Program) -> None:
-    """It is for one recording, where the program doesn't know it for two."""
-    path = path_of(program, bytes.fromhex(F1))
-    for words in (["replay", "base.toml"], ["list", "base.toml"]):
-        found = program.run(words[0], "--live=5", words[1], path, path)
-        must(found.status == 2 and not found.out, f"status {found.status}")
-        must(REFUSED in found.err, f"standard error is {found.err!r}")
-
-
 def reference_cases() -> Iterator[tuple]:
     """What the reference keeps."""
     for kind in KINDS:
@@ -120,7 +110,7 @@ def live_cases(program: Program) -> Iterator[tuple]:
     """All of the program."""
     for row in live_rows():
         yield f"row: {row.name}", row_is_read, program, row
-    for pair in live_pairs() if LIVES_TWO else []:
+    for pair in live_pairs():
         yield f"two: {pair.name}", pair_row_is_read, program, pair
     for group in range(GROUPS):
         for kind in KINDS:
@@ -128,8 +118,6 @@ def live_cases(program: Program) -> Iterator[tuple]:
     for given, said in words():
         yield f"live: {' '.join(given)}", word_holds, program, given, said
     yield "live: beside a list", beside_list, program
-    if not LIVES_TWO:
-        yield "live: beside a second recording", beside_second, program
 
 
 def try_live(cases: Cases, program: Program) -> None:

@@ -11,7 +11,7 @@ from typing import NamedTuple
 from edge_rows import low
 from pair_wanted import PairCase
 from program import PATIENCE, Program, must, rests, same_text, text_within
-from reads import LIVES_TWO, ORDERS
+from reads import LIVES, ORDERS
 from recorded_pair import NETWORKS, PairOptions
 from recording_rows import H1, H2, IL, ONE, PL, SL, US, ZERO, E, R
 
@@ -229,7 +229,7 @@ def live_pairs(program: Program) -> Iterator[tuple]:
     tries += [(name, PairOptions(), *each) for name, each in held_back().items()]
     if ORDERS:
         tries += [(name, PairOptions(reorder=1), *each) for name, each in held_in_order().items()]
-    if LIVES_TWO:
+    if LIVES:
         tries += [(name, PairOptions(live=1), *each) for name, each in held_by_clock().items()]
     for name, options, text, counts in tries:
         steps = steps_of(text)

@@ -18,6 +18,7 @@ from __future__ import annotations
 import argparse
 import json
 import os
+import subprocess
 import sys
 import tempfile
 
@@ -26,7 +27,6 @@ TESTS = os.path.join(os.path.dirname(os.path.abspath(__file__)), "..")
 sys.path[:0] = [os.path.join(TESTS, name) for name in ("lib", "recordings")]
 from live import run_script, why_no_network  # noqa: E402
 from program import Cases, must  # noqa: E402
-from reads import LIVES_TWO  # noqa: E402
 from tables import link_of, system_of, tables_of, text_of  # noqa: E402
 
 BENCH = os.path.join(TESTS, "recordings", "live_sides.py")
@@ -85,9 +85,10 @@ def nothing_comes(program: str, seconds: int, folder: str, *words: str) -> None:
     must(bench.early() == 0, f"{bench.early()} verdicts came")
 
 
-def why_no_option() -> str:
+def why_no_option(program: str) -> str:
     """Why the program can't be tried; empty where it can."""
-    return "" if LIVES_TWO else "the program has no --live for two recordings (tests/lib/reads.py)"
+    said = subprocess.run([program, "replay", "--help"], capture_output=True, check=False)
+    return "" if b"--live" in said.stdout else "the program has no --live"
 
 
 def main() -> None:
@@ -101,7 +102,7 @@ def main() -> None:
     given, cases = words.parse_args(), Cases()
     if not os.access(given.program, os.X_OK):
         words.error(f"there is no program at {given.program}")
-    reason = why_no_network() or why_no_option()
+    reason = why_no_network() or why_no_option(given.program)
     if reason:
         cases.skip("two networks, one dead", reason)
         sys.exit(cases.told())

@@ -160,13 +160,13 @@ module _ (t : Rows) (c : Choices) (until end time : ℕ) (more frames : List Fra
   strange-early : (k : Key) → k.link ≡ None → AreSame k
   strange-early k none =
       ap (λ l. Early l) (ap (λ o. dues_by t c until (more ++ frames) k o) none ∙ strange-both t c more frames k)
-      ∙ filter-append (λ d. nat_lt d.moment time) (map (stranger_due c.sight k) (strangers_of t c k.side k.port more))
-      (map (stranger_due c.sight k) (strangers_of t c k.side k.port frames))
-      ∙ ap (λ l. l ++ Early (map (stranger_due c.sight k) (strangers_of t c k.side k.port frames)))
-      (filter-none (λ d. nat_lt d.moment time) (map (stranger_due c.sight k) (strangers_of t c k.side k.port more))
+      ∙ filter-append (λ d. nat_lt d.moment time) (map (stranger_due t k) (strangers_of t c k.side k.port more))
+      (map (stranger_due t k) (strangers_of t c k.side k.port frames))
+      ∙ ap (λ l. l ++ Early (map (stranger_due t k) (strangers_of t c k.side k.port frames)))
+      (filter-none (λ d. nat_lt d.moment time) (map (stranger_due t k) (strangers_of t c k.side k.port more))
       (every-on (λ d. (time ≤ d.moment) × (d.key ≡ k)) (λ d. nat_lt d.moment time ≡ false)
       (λ d h. le-ltb d.moment time h.0)
-      (map (stranger_due c.sight k) (strangers_of t c k.side k.port more))
+      (map (stranger_due t k) (strangers_of t c k.side k.port more))
       (strange-late t c time more late k (λ m. time ≤ m) (λ a b le h. omega (arith, le, h)) (omega arith))))
       ∙ sym (ap (λ o. Early (dues_by t c end frames k o)) none)
 

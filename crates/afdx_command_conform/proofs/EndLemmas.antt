@@ -58,7 +58,7 @@ module _ (k : Rows × Choices) (j : JudgingRun) (frames : List Frame) (dues : Li
   all-lines = last-all k frames h.time j dues the-end.0 the-end.1 h.stands h.nothing_due
 
   -- and each stream is judged
-  pub all-ended : AreEnded j.streams.sight.tables.now k.1 (until_or k.1.until frames) frames j.streams.kept
+  pub all-ended : AreEnded j.streams.tables.now k.1 (until_or k.1.until frames) frames j.streams.kept
   all-ended = subst (λ t. AreEnded t k.1 (until_or k.1.until frames) frames j.streams.kept) (sym h.works.tables_are)
       (last-ended k frames h.time j dues the-end.0 the-end.1 h.stands h.nothing_due)
 

@@ -105,21 +105,19 @@ module _ (t : Rows) (c : Choices) (more frames : List Frame) where
       by None = refl
       by (Some place) = left-to-both k (judged_to t c.sight k.side place k.port)
 
-  pub strange-both : (k : Key) → map (stranger_due c.sight k) (strangers_of t c k.side k.port (more ++ frames))
-      ≡ map (stranger_due c.sight k) (strangers_of t c k.side k.port more) ++ map (stranger_due c.sight k)
+  pub strange-both : (k : Key) → map (stranger_due t k) (strangers_of t c k.side k.port (more ++ frames))
+      ≡ map (stranger_due t k) (strangers_of t c k.side k.port more) ++ map (stranger_due t k)
       (strangers_of t c k.side k.port frames)
   strange-both k =
       let test : Frame → Bool = λ x. left_at k.side k.port x && is_stranger t c.sight x.arrival in
-      ap (λ fs. map (stranger_due c.sight k) (map (λ (x : Frame). x.arrival) (filter
+      ap (λ fs. map (stranger_due t k) (map (λ (x : Frame). x.arrival) (filter
       (λ x. left_at k.side k.port x && is_stranger t c.sight x.arrival) fs)))
       counted-both
-      ∙ ap (λ fs. map (stranger_due c.sight k) (map (λ (x : Frame). x.arrival) fs))
-      (filter-append test (counted t c more)
+      ∙ ap (λ fs. map (stranger_due t k) (map (λ (x : Frame). x.arrival) fs)) (filter-append test (counted t c more)
       (counted t c frames))
-      ∙ ap (λ l. map (stranger_due c.sight k) l)
+      ∙ ap (λ l. map (stranger_due t k) l)
       (map-append (λ (x : Frame). x.arrival) (filter test (counted t c more)) (filter test (counted t c frames)))
-      ∙ map-append (stranger_due c.sight k) (strangers_of t c k.side k.port more)
-      (strangers_of t c k.side k.port frames)
+      ∙ map-append (stranger_due t k) (strangers_of t c k.side k.port more) (strangers_of t c k.side k.port frames)
 
   -- where none counts it is the same
   pub same-counted : (k : Key) → counted t c more ≡ [] → given_of t c (more ++ frames) k ≡ given_of t c frames k
@@ -162,10 +160,9 @@ module _ (t : Rows) (c : Choices) (time : ℕ) (more : List Frame) (late : ComeF
       by (Some place) = left-to-late k (judged_to t c.sight k.side place k.port)
 
   pub strange-late : (k : Key) (Q : ℕ → Type 0) → ((a b : ℕ) → a ≤ b → Q a → Q b) → Q time
-      → AllByRecursion (λ d. Q d.moment × (d.key ≡ k))
-      (map (stranger_due c.sight k) (strangers_of t c k.side k.port more))
+      → AllByRecursion (λ d. Q d.moment × (d.key ≡ k)) (map (stranger_due t k) (strangers_of t c k.side k.port more))
   strange-late k Q up here =
-      every-map (λ d. Q d.moment × (d.key ≡ k)) (stranger_due c.sight k) (strangers_of t c k.side k.port more)
+      every-map (λ d. Q d.moment × (d.key ≡ k)) (stranger_due t k) (strangers_of t c k.side k.port more)
       (every-map (λ (x : Arrival). Q x.time × (k ≡ k)) (λ (x : Frame). x.arrival)
       (filter (λ x. left_at k.side k.port x && is_stranger t c.sight x.arrival) (counted t c more))
       (every-on (λ x. time ≤ x.arrival.time) (λ x. Q x.arrival.time × (k ≡ k))
@@ -251,20 +248,19 @@ module _ (t : Rows) (c : Choices) (until time : ℕ) (more frames : List Frame) 
   abbrev Behind : Type 0
   Behind = IsBehind k Q (of_key k dues) (dues_of t c until (more ++ frames) k)
 
-  given-strange : k.link ≡ None → (given_of t c frames k).strange ≡ map (stranger_due c.sight k)
+  given-strange : k.link ≡ None → (given_of t c frames k).strange ≡ map (stranger_due t k)
       (strangers_of t c k.side k.port frames)
   unfolding given_of
   given-strange none = ap (λ o. (given_by t c frames k o).strange) none
 
   strange-behind : (ended : Option ℕ) → k.link ≡ None
-      → AllByRecursion (λ d. Q d.moment × (d.key ≡ k))
-      (map (stranger_due c.sight k) (strangers_of t c k.side k.port more))
+      → AllByRecursion (λ d. Q d.moment × (d.key ≡ k)) (map (stranger_due t k) (strangers_of t c k.side k.port more))
       → AreKept t c until ended time (given_of t c frames) dues kept → Behind
   strange-behind ended none newer are =
       subst (λ l. IsBehind k Q (of_key k dues) l)
       (sym (ap (λ o. dues_by t c until (more ++ frames) k o) none ∙ strange-both t c more frames k
-      ∙ ap (λ l. map (stranger_due c.sight k) (strangers_of t c k.side k.port more) ++ l) (sym (given-strange none))))
-      (strangers-behind k Q up (map (stranger_due c.sight k) (strangers_of t c k.side k.port more))
+      ∙ ap (λ l. map (stranger_due t k) (strangers_of t c k.side k.port more) ++ l) (sym (given-strange none))))
+      (strangers-behind k Q up (map (stranger_due t k) (strangers_of t c k.side k.port more))
       (given_of t c frames k).strange
       (of_key k dues) (slot_at kept.slots.items k) newer (are.falling k) due
       (to-strangers t c until ended time k (given_of t c frames k) (of_key k dues) (slot_at kept.slots.items k) none
@@ -297,7 +293,7 @@ module _ (t : Rows) (c : Choices) (until time : ℕ) (more frames : List Frame) 
   known-behind none are = elim (known-cases t k known) [
     | inl no-link ↦ strange-behind (Some until) no-link
         (subst (λ fs. AllByRecursion (λ d. Q d.moment × (d.key ≡ k))
-        (map (stranger_due c.sight k) (map (λ (x : Frame). x.arrival)
+        (map (stranger_due t k) (map (λ (x : Frame). x.arrival)
         (filter (λ x. left_at k.side k.port x && is_stranger t c.sight x.arrival) fs)))) (sym none) tt) are
     | inr of ↦
         (let z = terms_at t c until of.0 k.port in

@@ -19,7 +19,6 @@ use Rattle.afdx_command_conform.specs.Choices.{Choices}
 use Rattle.afdx_command_conform.specs.Frames.{strangers_of, terms_at}
 use Rattle.afdx_command_conform.specs.Keys.{key_with}
 use Rattle.afdx_command_conform.specs.Lines.{AreLines, Due, dues_by, found_due, judged_at, judged_dues, lines_of, of_key, stranger_due, stream_dues, unsure_dues}
-use Rattle.afdx_command_conform.specs.Sight.{Sight}
 use Rattle.afdx_command_conform.specs.RunLaws.{AreAll, NoneIsStrange, NothingIsFound}
 use Rattle.afdx_command_conform.specs.Tapped.{judged_to}
 use Rattle.afdx_command_conform.specs.Telling.{findings_in, is_finding, one_if}
@@ -89,9 +88,9 @@ stream-quiet z k j = (
     by true = unsure-quiet z k (reverse j.arrivals)
     by false = tt
 
-no-strangers : (o : Sight) (k : Key) (xs : List Arrival) → AllByRecursion IsQuiet (map (stranger_due o k) xs) → xs ≡ []
-no-strangers o k [] h = refl
-no-strangers o k (x ∷ xs) h = absurd (true≢false h.0)
+no-strangers : (t : Rows) (k : Key) (xs : List Arrival) → AllByRecursion IsQuiet (map (stranger_due t k) xs) → xs ≡ []
+no-strangers t k [] h = refl
+no-strangers t k (x ∷ xs) h = absurd (true≢false h.0)
 
 -- ---- and of all
 
@@ -113,7 +112,7 @@ module _ (t : Rows) (c : Choices) (until : ℕ) (frames : List Frame) (lawful : 
 
   pub strange-lines : (side : Side) (port : ℕ) → port < 256
       → of_key (key_with side port None) lines
-      ≡ map (stranger_due c.sight (key_with side port None)) (strangers_of t c side port frames)
+      ≡ map (stranger_due t (key_with side port None)) (strangers_of t c side port frames)
   strange-lines side port small = are.own (key_with side port None) small
 
   abbrev pub NoneIsFound : Type 0
@@ -121,7 +120,7 @@ module _ (t : Rows) (c : Choices) (until : ℕ) (frames : List Frame) (lawful : 
 
   pub quiet-streams : AllByRecursion IsQuiet lines → NoneIsStrange t c until frames × NoneIsFound
   quiet-streams h = (
-    λ side port small. no-strangers c.sight (key_with side port None) (strangers_of t c side port frames)
+    λ side port small. no-strangers t (key_with side port None) (strangers_of t c side port frames)
         (subst (λ (l : List Due). AllByRecursion IsQuiet l) (strange-lines side port small)
         (all-of-key IsQuiet (key_with side port None) lines h)),
     λ side place port l is.
@@ -133,8 +132,7 @@ module _ (t : Rows) (c : Choices) (until : ℕ) (frames : List Frame) (lawful : 
 
   -- what is so of the lines of each stream and of what is of none is so of all
   pub of-all : (P : Due → Type 0)
-      → ((k : Key) → k.port < 256
-      → AllByRecursion P (map (stranger_due c.sight k) (strangers_of t c k.side k.port frames)))
+      → ((k : Key) → k.port < 256 → AllByRecursion P (map (stranger_due t k) (strangers_of t c k.side k.port frames)))
       → ((k : Key) (place : ℕ) (l : LinkRow) → judged_to t c.sight k.side place k.port ≡ Some l
       → AllByRecursion P (judged_dues (terms_at t c until l k.port) k (judged_at t c until frames l k.side k.port)))
       → AllByRecursion P lines
@@ -157,7 +155,7 @@ module _ (t : Rows) (c : Choices) (until : ℕ) (frames : List Frame) (lawful : 
 
   pub streams-quiet : NoneIsStrange t c until frames → NoneIsFound → AllByRecursion IsQuiet lines
   streams-quiet strange found = of-all IsQuiet
-      (λ k small. subst (λ (l : List Arrival). AllByRecursion IsQuiet (map (stranger_due c.sight k) l))
+      (λ k small. subst (λ (l : List Arrival). AllByRecursion IsQuiet (map (stranger_due t k) l))
       (sym (strange k.side k.port small)) tt)
       (λ k place l is. (stream-quiet (terms_at t c until l k.port) k (judged_at t c until frames l k.side k.port)).1
       (found k.side place k.port l is))
@@ -208,7 +206,7 @@ module _ (t : Rows) (c : Choices) (until : ℕ) (frames : List Frame) (lawful : 
   pub none-of-sure : NoneIsStrange t c until frames → NoneIsFound
       → AreAll t c until frames (λ l side port. (judged_at t c until frames l side port).is_unsure ≡ false) → lines ≡ []
   none-of-sure strange found sure = none-at-all lines (of-all (λ d. ⊥)
-      (λ k small. subst (λ (l : List Arrival). AllByRecursion (λ d. ⊥) (map (stranger_due c.sight k) l))
+      (λ k small. subst (λ (l : List Arrival). AllByRecursion (λ d. ⊥) (map (stranger_due t k) l))
       (sym (strange k.side k.port small)) tt)
       (λ k place l is. subst (λ (l : List Due). AllByRecursion (λ d. ⊥) l)
       (sym (quiet-dues (terms_at t c until l k.port) k (judged_at t c until frames l k.side k.port)

@@ -61,7 +61,7 @@ linked k fs (Some l) = given_with (reverse (map (λ x. x.arrival) (filter (is_ar
 -- what these frames give
 abbrev pub given_from : Rows → Sight → Key → List Frame → Option ℕ → Given
 given_from t sight k fs None = given_with [] []
-    (map (stranger_due sight k)
+    (map (stranger_due t k)
     (map (λ x. x.arrival) (filter (λ x. left_at k.side k.port x && is_stranger t sight x.arrival) fs)))
 given_from t sight k fs (Some place) = linked k fs (judged_to t sight k.side place k.port)
 
@@ -224,7 +224,7 @@ module _ (t : Rows) (c : Choices) (frames : List Frame) (time : ℕ)
 
       by : (o : Option ℕ) → AllByRecursion (λ d. d.moment ≤ time)
           (given_from t c.sight k (counted t c frames) o).strange
-      by None = all-map (λ d. d.moment ≤ time) (stranger_due c.sight k)
+      by None = all-map (λ d. d.moment ≤ time) (stranger_due t k)
           (map (λ x. x.arrival) (filter (λ x. left_at k.side k.port x && is_stranger t c.sight x.arrival)
           (counted t c frames)))
           (all-map (λ x. x.time ≤ time) (λ (x : Frame). x.arrival)

@@ -91,7 +91,7 @@ module _ (t : Rows) (c : Choices) (until : ℕ) (ended : Option ℕ) (time : ℕ
 
       by : (o : Option ℕ) → (given_from t c.sight k (x ∷ counted t c frames) o).strange ≡ (given_from t c.sight k
           (counted t c frames) o).strange
-      by None = ap (λ v. map (stranger_due c.sight k) (map (λ y. y.arrival)
+      by None = ap (λ v. map (stranger_due t k) (map (λ y. y.arrival)
           (cond v (x ∷ filter (λ y. left_at k.side k.port y && is_stranger t c.sight y.arrival) (counted t c frames))
           (filter (λ y. left_at k.side k.port y && is_stranger t c.sight y.arrival) (counted t c frames))))) (none true)
       by (Some place) = by-link (judged_to t c.sight k.side place k.port)
@@ -178,17 +178,17 @@ module _ (t : Rows) (c : Choices) (until : ℕ) (ended : Option ℕ) (time : ℕ
       → AllByRecursion (λ x. x.arrival.time ≤ a.time) (counted t c frames)
       → ((k : Key) → AreFalling (given_of t c frames k).strange)
       → AreKept t c until ended time (with_strange (key_with a.side a.port None)
-      (stranger_due c.sight (key_with a.side a.port None) a)
+      (stranger_due t (key_with a.side a.port None) a)
       (given_of t c frames)) lines kept
       → AreKept t c until ended time (given_of t c (frame_with Left a ∷ frames)) lines kept
   join-strange e strange all falling are =
       kept-same t c until ended time (with_strange (key_with a.side a.port None)
-      (stranger_due c.sight (key_with a.side a.port None) a)
+      (stranger_due t (key_with a.side a.port None) a)
       (given_of t c frames)) (given_of t c (frame_with Left a ∷ frames)) lines kept
       (λ k known. given-more (frame_with Left a) k e ∙ given-strange t c.sight k (counted t c frames) a lawful strange
       known
       ∙ ap (λ g. if is_key (key_with a.side a.port None) k
-      then given_with g.came g.left (stranger_due c.sight (key_with a.side a.port None) a ∷ g.strange) else g)
+      then given_with g.came g.left (stranger_due t (key_with a.side a.port None) a ∷ g.strange) else g)
       (sym (given-from t c frames k)))
       (λ k. subst (λ g. AreFalling g.strange) (sym (given-more (frame_with Left a) k e)) (by k k.link
       (subst (λ g. AreFalling g.strange) (given-from t c frames k) (falling k))
@@ -200,11 +200,11 @@ module _ (t : Rows) (c : Choices) (until : ℕ) (ended : Option ℕ) (time : ℕ
           → AreFalling (given_from t c.sight k (frame_with Left a ∷ counted t c frames) o).strange
       by k None f times = tell (left_at k.side k.port (frame_with Left a) && is_stranger t c.sight a)
         where
-          tell : (v : Bool) → AreFalling (map (stranger_due c.sight k) (map (λ y. y.arrival)
+          tell : (v : Bool) → AreFalling (map (stranger_due t k) (map (λ y. y.arrival)
               (cond v (frame_with Left a ∷ filter (λ y. left_at k.side k.port y && is_stranger t c.sight y.arrival)
               (counted t c frames))
               (filter (λ y. left_at k.side k.port y && is_stranger t c.sight y.arrival) (counted t c frames)))))
-          tell true = falling-more (stranger_due c.sight k a) (given_from t c.sight k (counted t c frames) None).strange
+          tell true = falling-more (stranger_due t k a) (given_from t c.sight k (counted t c frames) None).strange
               times f
           tell false = f
       by k (Some place) f times = linked-falls k (frame_with Left a ∷ counted t c frames)

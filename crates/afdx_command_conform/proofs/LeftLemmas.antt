@@ -95,7 +95,7 @@ given-left t sight k fs a place l lawful named to known judges = by k.link known
         (given_from t sight k fs o).strange
         else given_from t sight k fs o)
     by None h =
-        subst (λ n. given_with [] [] (map (stranger_due sight k) (map (λ x. x.arrival)
+        subst (λ n. given_with [] [] (map (stranger_due t k) (map (λ x. x.arrival)
         (cond (is_side a.side k.side && nat_eq a.port k.port && n)
         (frame_with Left a ∷ filter (λ x. left_at k.side k.port x && is_stranger t sight x.arrival) fs)
         (filter (λ x. left_at k.side k.port x && is_stranger t sight x.arrival) fs))))
@@ -105,7 +105,7 @@ given-left t sight k fs a place l lawful named to known judges = by k.link known
         else given_from t sight k fs None)) (sym (stranger-no t sight a place l named to
         (judged-heard t sight a.side place a.port l (link-to t place a.port l to).at judges)))
         (strange (is_side a.side k.side && nat_eq a.port k.port)
-        (filter (λ x. left_at k.side k.port x && is_stranger t sight x.arrival) fs) (stranger_due sight k)
+        (filter (λ x. left_at k.side k.port x && is_stranger t sight x.arrival) fs) (stranger_due t k)
         (given_with (given_from t sight k fs None).came ((given_from t sight k fs None).left ++ gone_of a ∷ [])
         (given_from t sight k fs None).strange))
     by (Some p) h =
@@ -151,7 +151,7 @@ given-unseen t sight k fs a place l lawful named to own none = by k.link
         true≢false (sym (judged-there t sight a k place p l m to both.0 s q (sym n-is ∙ n) ∙ both.1) ∙ none)))
 
     by : (o : Option ℕ) → given_from t sight k (frame_with Left a ∷ fs) o ≡ given_from t sight k fs o
-    by None = ap (λ v. given_with [] [] (map (stranger_due sight k) (map (λ x. x.arrival)
+    by None = ap (λ v. given_with [] [] (map (stranger_due t k) (map (λ x. x.arrival)
         (cond v (frame_with Left a ∷ filter (λ x. left_at k.side k.port x && is_stranger t sight x.arrival) fs)
         (filter (λ x. left_at k.side k.port x && is_stranger t sight x.arrival) fs)))))
         (ap (λ n. is_side a.side k.side && nat_eq a.port k.port && n) own
@@ -161,7 +161,7 @@ given-unseen t sight k fs a place l lawful named to own none = by k.link
 pub given-strange : (t : Rows) (sight : Sight) (k : Key) (fs : List Frame) (a : Arrival) → IsLawfulSwitch t
     → is_stranger t sight a ≡ true → is_known t k ≡ true
     → given_from t sight k (frame_with Left a ∷ fs) k.link
-    ≡ with_strange (key_with a.side a.port None) (stranger_due sight (key_with a.side a.port None) a)
+    ≡ with_strange (key_with a.side a.port None) (stranger_due t (key_with a.side a.port None) a)
     (λ k'. given_from t sight k' fs k'.link) k
 unfolding is_known is_arrival_of left_at is_key
 given-strange t sight k fs a lawful strange known = by k.link refl known
@@ -195,7 +195,7 @@ given-strange t sight k fs a lawful strange known = by k.link refl known
         (Some m)
         ≡ (if is_side a.side k.side && nat_eq a.port k.port && false
         then given_with (linked k fs (Some m)).came (linked k fs (Some m)).left
-        (stranger_due sight (key_with a.side a.port None) a ∷ [])
+        (stranger_due t (key_with a.side a.port None) a ∷ [])
         else linked k fs (Some m))
     judged p m is =
         let both = judged-is t sight k.side p k.port m is in
@@ -205,7 +205,7 @@ given-strange t sight k fs a lawful strange known = by k.link refl known
         (linked k fs (Some m)).came
         (filter (λ x. left_at k.side k.port x && names m.vl x.arrival.bytes) fs)
         (given_with (linked k fs (Some m)).came (linked k fs (Some m)).left
-        (stranger_due sight (key_with a.side a.port None) a ∷ []))
+        (stranger_due t (key_with a.side a.port None) a ∷ []))
         (λ e. let first = and_parts (is_side a.side k.side && nat_eq a.port k.port) (names m.vl a.bytes) e in
         let where-is = and_parts (is_side a.side k.side) (nat_eq a.port k.port) first.0 in
         let port : a.port ≡ k.port = eqb-true a.port k.port where-is.1 in
@@ -220,28 +220,27 @@ given-strange t sight k fs a lawful strange known = by k.link refl known
     by-link : (p : ℕ) (o : Option LinkRow) → judged_to t sight k.side p k.port ≡ o → linked k (frame_with Left a ∷ fs) o
         ≡ (if is_side a.side k.side && nat_eq a.port k.port && false
         then given_with (linked k fs o).came (linked k fs o).left
-        (stranger_due sight (key_with a.side a.port None) a ∷ (linked k fs o).strange)
+        (stranger_due t (key_with a.side a.port None) a ∷ (linked k fs o).strange)
         else linked k fs o)
     by-link p None is = sym (never-last (is_side a.side k.side && nat_eq a.port k.port)
-        (given_with [] [] (stranger_due sight (key_with a.side a.port None) a ∷ [])) (given_with [] [] []))
+        (given_with [] [] (stranger_due t (key_with a.side a.port None) a ∷ [])) (given_with [] [] []))
     by-link p (Some m) is = judged p m is
 
     by : (o : Option ℕ) → k.link ≡ o → is_known_by t k o ≡ true → given_from t sight k (frame_with Left a ∷ fs) o
         ≡ (if is_side a.side k.side && nat_eq a.port k.port && is_link None o
         then given_with (given_from t sight k fs o).came (given_from t sight k fs o).left
-        (stranger_due sight (key_with a.side a.port None) a ∷ (given_from t sight k fs o).strange)
+        (stranger_due t (key_with a.side a.port None) a ∷ (given_from t sight k fs o).strange)
         else given_from t sight k fs o)
     by None none h =
-        subst (λ n. given_with [] [] (map (stranger_due sight k) (map (λ x. x.arrival)
+        subst (λ n. given_with [] [] (map (stranger_due t k) (map (λ x. x.arrival)
         (cond (is_side a.side k.side && nat_eq a.port k.port && n)
         (frame_with Left a ∷ filter (λ x. left_at k.side k.port x && is_stranger t sight x.arrival) fs)
         (filter (λ x. left_at k.side k.port x && is_stranger t sight x.arrival) fs))))
         ≡ (if is_side a.side k.side && nat_eq a.port k.port && true
-        then given_with [] []
-        (stranger_due sight (key_with a.side a.port None) a ∷ (given_from t sight k fs None).strange)
+        then given_with [] [] (stranger_due t (key_with a.side a.port None) a ∷ (given_from t sight k fs None).strange)
         else given_from t sight k fs None)) (sym strange)
         (tells (is_side a.side k.side && nat_eq a.port k.port)
-        (filter (λ x. left_at k.side k.port x && is_stranger t sight x.arrival) fs) (stranger_due sight k)
-        (stranger_due sight (key_with a.side a.port None) a)
-        (λ e. ap (λ q. stranger_due sight q a) (sym (same-key None none e))))
+        (filter (λ x. left_at k.side k.port x && is_stranger t sight x.arrival) fs) (stranger_due t k)
+        (stranger_due t (key_with a.side a.port None) a)
+        (λ e. ap (λ q. stranger_due t q a) (sym (same-key None none e))))
     by (Some p) is h = by-link p (judged_to t sight k.side p k.port) refl

@@ -63,29 +63,23 @@ last_line k frames lines last lawful all never closed =
 -- ---- all are judged
 
 module _ (t : Rows) (sight : Sight) (side : Side) where
-  to-all : (l : LinkRow) (system : ℕ) (to : List ℕ) → sight.is_edge (port_of t system) ≡ true
-      → unseen_to t sight side l to ≡ 0
+  to-all : (l : LinkRow) (system : ℕ) (to : List ℕ) → unseen_to t sight side l to ≡ 0
       → list_any (λ place. nat_eq place system) to ≡ true → is_judged t sight side l (port_of t system) ≡ true
   unfolding unseen_to
-  to-all l system [] edge none goes = absurd (true≢false (sym goes))
-  to-all l system (x ∷ to) edge none goes =
-      by (sight.is_edge (port_of t x)) (is_judged t sight side l (port_of t x)) (nat_eq x system) refl refl refl none
-      goes (to-all l system to edge)
+  to-all l system [] none goes = absurd (true≢false (sym goes))
+  to-all l system (x ∷ to) none goes =
+      by (is_judged t sight side l (port_of t x)) (nat_eq x system) refl refl none goes (to-all l system to)
     where
-      by : (a b e : Bool) → sight.is_edge (port_of t x) ≡ a → is_judged t sight side l (port_of t x) ≡ b
-          → nat_eq x system ≡ e
-          → (if a then (if b then 0 else 1) else 0) + unseen_to t sight side l to ≡ 0
+      by : (b e : Bool) → is_judged t sight side l (port_of t x) ≡ b → nat_eq x system ≡ e
+          → (if b then 0 else 1) + unseen_to t sight side l to ≡ 0
           → (e || list_any (λ place. nat_eq place system) to) ≡ true
           → (unseen_to t sight side l to ≡ 0 → list_any (λ place. nat_eq place system) to ≡ true
           → is_judged t sight side l (port_of t system) ≡ true)
           → is_judged t sight side l (port_of t system) ≡ true
-      by true false e at is same none goes more = absurd (omega (arith, none))
-      by true true true at is same none goes more =
+      by false e is same none goes more = absurd (omega (arith, none))
+      by true true is same none goes more =
           ap (λ (n : ℕ). is_judged t sight side l (port_of t n)) (sym (eqb-true x system same)) ∙ is
-      by true true false at is same none goes more = more (omega (arith, none)) goes
-      by false b true at is same none goes more = absurd (true≢false (sym edge
-          ∙ sym (ap (λ (n : ℕ). sight.is_edge (port_of t n)) (eqb-true x system same)) ∙ at))
-      by false b false at is same none goes more = more (omega (arith, none)) goes
+      by true false is same none goes more = more (omega (arith, none)) goes
 
   among-all : (links : List LinkRow) (place : ℕ) (l : LinkRow) → unseen_among t sight side links ≡ 0
       → slice_get links place ≡ Some l → unseen_to t sight side l l.to ≡ 0
@@ -98,12 +92,10 @@ module _ (t : Rows) (sight : Sight) (side : Side) where
   among-all (k ∷ links) (suc place) l none at = among-all links place l (omega (arith, none)) at
 
 pub none_unseen : NoneUnseenIsJudged
-none_unseen t sight side place system l s lawful none edge at there goes =
+none_unseen t sight side place system l s lawful none at there goes =
     to-judged t sight side place s.port l (goes-port t place l system s lawful at there goes)
     (subst (λ (p : ℕ). is_judged t sight side l p ≡ true) (port-is t system s there)
-    (to-all t sight side l system l.to
-    (subst (λ (p : ℕ). sight.is_edge p ≡ true) (sym (port-is t system s there)) edge)
-    (among-all t sight side t.links place l (by side) at) goes))
+    (to-all t sight side l system l.to (among-all t sight side t.links place l (by side) at) goes))
   where
     by : (x : Side) → unseen_among t sight x t.links ≡ 0
     by A = omega (arith, none)

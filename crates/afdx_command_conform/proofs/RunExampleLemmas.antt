@@ -209,7 +209,7 @@ module _ (time : ℕ) (all : counted tables choices (frames_at time) ≡ frames_
         by : (o : Option ℕ) → k.link ≡ o
             → dues_by tables choices time (frames_at time) (key_with k.side k.port o) o ≡ []
         by None is =
-            ap (λ (xs : List Arrival). map (stranger_due choices.sight (key_with k.side k.port None)) xs)
+            ap (λ (xs : List Arrival). map (stranger_due tables (key_with k.side k.port None)) xs)
             (no-strangers k.side k.port)
         by (Some place) is =
             judged place (ap (λ (o : Option ℕ). is_key (key_with k.side k.port o) its-key) (sym is) ∙ other)

@@ -1,31 +1,16 @@
 -- Which frames that left are of no stream.
-use Rattle.std.proofs.Common.{◌≡◌, ℕ, List, Bool, true, false, ◌&&◌, ◌||◌, refl, sym, ap, ◌∙◌, true≢false}
+use Rattle.std.proofs.Common.{◌≡◌, ℕ, Bool, true, false, ◌&&◌, ◌||◌, refl, sym, ap, ◌∙◌, true≢false}
 use Rattle.std.proofs.lemmas.Bool.{and_parts}
 use Rattle.std.specs.Option.{option_map_or}
 use Rattle.std.specs.Prelude.{Option, Some, None, is_some, not, option_and_then, slice_get}
-use Rattle.afdx_config.specs.Reading.{link_of}
 use Rattle.afdx_config.specs.Rows.{LinkRow, Rows}
-use Rattle.afdx_frame.specs.Layout.{link_named_by}
 use Rattle.afdx_frame.specs.declared.link.Side.{Side}
-use Rattle.afdx_frame.specs.declared.link.VlId.{VlId}
 use Rattle.afdx_police.specs.Arrival.{Arrival}
 use Rattle.afdx_input_lines.specs.declared.role.Role.TheVariants.{Left}
 use Rattle.afdx_input_runs.specs.Joining.{Frame}
 use Rattle.afdx_command_conform.specs.Frames.{is_stranger}
-use Rattle.afdx_command_conform.specs.Sight.{Sight, sight_of}
-use Rattle.afdx_command_conform.specs.Tapped.{goes_there, is_damaged, is_heard, is_heard_at, is_judged, is_known_in, is_of_came, is_unheard, link_to, place_named}
-use Rattle.afdx_command_conform.specs.declared.sight.Sight as code
-
--- by the tables of one switch there are their links
-known-by : (t : Rows) (named : Option VlId) → is_some (option_and_then (λ v. link_of t.links v.0) named)
-    ≡ option_map_or (λ v. is_some (link_of t.links v.0)) named false
-known-by t None = refl
-known-by t (Some v) = refl
-
-pub known-named : (sight : code.Sight) (bytes : List ℕ) → is_some (place_named sight.tables.now bytes)
-    ≡ is_known_in (sight_of sight) bytes
-unfolding place_named sight_of
-known-named sight bytes = known-by sight.tables.now (link_named_by bytes)
+use Rattle.afdx_command_conform.specs.Sight.{Sight}
+use Rattle.afdx_command_conform.specs.Tapped.{goes_there, is_damaged, is_heard, is_heard_at, is_judged, is_of_came, is_unheard, link_to, place_named}
 
 -- the link at this place
 pub heard-at : (t : Rows) (sight : Sight) (side : Side) (place : ℕ) (l : LinkRow) → slice_get t.links place ≡ Some l

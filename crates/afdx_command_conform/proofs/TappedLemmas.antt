@@ -10,7 +10,7 @@ use Rattle.afdx_law_bounds.specs.Tables.{port_of}
 use Rattle.afdx_config.specs.Rows.{LinkRow, Rows}
 use Rattle.afdx_frame.specs.declared.link.Side.{Side}
 use Rattle.afdx_command_conform.specs.Sight.{Sight}
-use Rattle.afdx_command_conform.specs.Tapped.{is_judged, judged_to, link_to, unseen_among, unseen_at, unseen_to}
+use Rattle.afdx_command_conform.specs.Tapped.{is_judged, judged_to, link_to, unseen_among, unseen_to}
 
 module _ (t : Rows) (sight : Sight) (side : Side) (place port : ℕ) (l : LinkRow) where
   pub to-judged : link_to t place port ≡ Some l → is_judged t sight side l port ≡ true
@@ -123,7 +123,7 @@ filter-pushed f xs x e = filter-append f xs (x ∷ []) ∙ ap (λ b. filter f xs
 
 module _ (t : Rows) (sight : Sight) (side : Side) where
   pub unseen-append : (l : LinkRow) (xs : List ℕ) (system : ℕ) → unseen_to t sight side l (xs ++ system ∷ [])
-      ≡ unseen_to t sight side l xs + unseen_at t sight side l (port_of t system)
+      ≡ unseen_to t sight side l xs + (if is_judged t sight side l (port_of t system) then 0 else 1)
   unfolding unseen_to
   unseen-append l [] system = omega arith
   unseen-append l (x ∷ xs) system = let h = unseen-append l xs system in omega (arith, h)
@@ -145,7 +145,7 @@ module _ (t : Rows) (sight : Sight) (side : Side) where
   -- one more system
   pub unseen-next : (l : LinkRow) (rank system : ℕ) → system ≡ get_or l.to rank system → rank < length l.to
       → unseen_to t sight side l (take (rank + 1) l.to)
-      ≡ unseen_to t sight side l (take rank l.to) + unseen_at t sight side l (port_of t system)
+      ≡ unseen_to t sight side l (take rank l.to) + (if is_judged t sight side l (port_of t system) then 0 else 1)
   unseen-next l rank system is lt =
       ap (λ xs. unseen_to t sight side l xs) (take_more l.to rank system lt ∙ ap (λ n. take rank l.to ++ n ∷ [])
       (sym is))

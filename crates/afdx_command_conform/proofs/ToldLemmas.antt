@@ -1,12 +1,12 @@
 -- What a run has told, step by step.
-use Rattle.std.proofs.Common.{◌≡◌, ◌+◌, ◌++◌, ◌∷◌, ◌∙◌, [], ℕ, Bool, List, ap, arith, min, refl, subst, sym}
+use Rattle.std.proofs.Common.{Bor, ◌≡◌, ◌+◌, ◌++◌, ◌∷◌, ◌∙◌, [], ℕ, Bool, List, ap, ap₂, arith, min, refl, subst, sym}
 use Rattle.std.proofs.Common.{true, false}
 use Rattle.std.specs.Prelude.{Err, Ok, OnOk, Result}
 use Rattle.afdx_config.specs.Rows.{Rows}
 use Rattle.afdx_input_runs.specs.Joining.{Frame}
 use Rattle.afdx_text.specs.declared.conform_line.ConformLine.{ConformLine}
 use Rattle.afdx_command_conform.proofs.TellingLemmas.{findings-append, no-findings}
-use Rattle.afdx_command_conform.specs.Sight.{sight_of}
+use Rattle.afdx_command_conform.specs.Sight.{sight_in}
 use Rattle.afdx_command_conform.specs.Choices.{Choices, is_in_time, is_missed, is_passed, left_out_of}
 use Rattle.afdx_command_conform.specs.ChoicesOf.{choices_of}
 use Rattle.afdx_command_conform.specs.Judging.{IsSameButTaken}
@@ -15,20 +15,22 @@ use Rattle.afdx_command_conform.specs.Telling.{findings_in, most_counted, one_if
 use Rattle.afdx_command_conform.specs.Standing.{IsSameButKept, seen_by}
 use Rattle.afdx_command_conform.specs.Told.{WorksBy, choices_in}
 use Rattle.afdx_command_conform.specs.declared.judging.JudgingRun.{JudgingRun}
-use Rattle.afdx_command_conform.specs.declared.sight.Sight as code
+use Rattle.afdx_input_sources.specs.declared.taps.Taps.{Taps}
 use Rattle.afdx_command_conform.specs.declared.streams.Streams.{Streams}
 
 -- as these streams were, which are these
 pub told-rules : {a b c : Streams} → c ≡ b → IsSameButKept a b → IsSameButKept a c
 told-rules same rules = record {
-  sight = ap (λ (s : Streams). s.sight) same ∙ rules.sight;
+  tables = ap (λ (s : Streams). s.tables) same ∙ rules.tables;
+  taps = ap (λ (s : Streams). s.taps) same ∙ rules.taps;
 }
 
 module _ (r : Rows × Choices) (frames : List Frame) (j k : JudgingRun) where
-  chosen-same : k.streams.sight ≡ j.streams.sight → k.choices ≡ j.choices → choices_in j ≡ r.1
+  chosen-same : k.streams.tables ≡ j.streams.tables → k.streams.taps ≡ j.streams.taps → k.choices ≡ j.choices
+      → choices_in j ≡ r.1
       → choices_in k ≡ r.1
-  chosen-same sight choices is =
-      ap (λ s. choices_of (sight_of s) k.choices.now) sight
+  chosen-same tables taps choices is =
+      ap₂ (λ (t : Bor Rows) (p : Bor Taps). choices_of (sight_in t.now p.now) k.choices.now) tables taps
       ∙ ap (λ b. choices_of (seen_by j.streams) b.now) choices ∙ is
 
   -- what else changes doesn't matter
@@ -37,8 +39,8 @@ module _ (r : Rows × Choices) (frames : List Frame) (j k : JudgingRun) where
       → k.findings ≡ j.findings → k.left_out ≡ j.left_out → k.latest ≡ j.latest
       → WorksBy r frames j dues → WorksBy r frames k dues
   works-same dues rules choices findings left_out latest h = record {
-    tables_are = ap (λ (s : code.Sight). s.tables.now) rules.sight ∙ h.tables_are;
-    choices_are = chosen-same rules.sight choices h.choices_are;
+    tables_are = ap (λ (b : Bor Rows). b.now) rules.tables ∙ h.tables_are;
+    choices_are = chosen-same rules.tables rules.taps choices h.choices_are;
     findings_are = findings ∙ h.findings_are;
     left_out_are = left_out ∙ h.left_out_are;
     latest_is = latest ∙ h.latest_is;
@@ -52,8 +54,8 @@ module _ (r : Rows × Choices) (frames : List Frame) (j k : JudgingRun) where
       → lines_of new ≡ lines_of old ++ more
       → WorksBy r frames j old → WorksBy r frames k new
   works-more old new more rules choices left_out latest counted told h = record {
-    tables_are = ap (λ (s : code.Sight). s.tables.now) rules.sight ∙ h.tables_are;
-    choices_are = chosen-same rules.sight choices h.choices_are;
+    tables_are = ap (λ (b : Bor Rows). b.now) rules.tables ∙ h.tables_are;
+    choices_are = chosen-same rules.tables rules.taps choices h.choices_are;
     findings_are =
         let all = ap findings_in told ∙ findings-append (lines_of old) more in
         let before = h.findings_are in
@@ -100,9 +102,9 @@ pub works-next : (r : Rows × Choices) (frames : List Frame) (j k l : JudgingRun
     → IsSameButTaken j k
     → l.streams ≡ k.streams
     → l.choices ≡ k.choices → l.findings ≡ k.findings → l.left_out ≡ k.left_out → l.latest ≡ x.arrival.time
-    → (j.left_out ≡ min (left_out_of j.streams.sight.tables.now (choices_in j)
+    → (j.left_out ≡ min (left_out_of j.streams.tables.now (choices_in j)
     frames) most_counted
-    → k.left_out ≡ min (left_out_of j.streams.sight.tables.now (choices_in j)
+    → k.left_out ≡ min (left_out_of j.streams.tables.now (choices_in j)
     (x ∷ frames)) most_counted)
     → WorksBy r frames j dues → WorksBy r (x ∷ frames) l dues
 works-next r frames j k l dues x others streams choices findings left_out latest counted h =
@@ -113,17 +115,19 @@ works-next r frames j k l dues x others streams choices findings left_out latest
     → k.left_out ≡ min (left_out_of t (choices_in j)
     (x ∷ frames)) most_counted) h.tables_are counted) in
     record {
-      tables_are = ap (λ (s : Streams). s.sight.tables.now) streams
-          ∙ ap (λ (s : code.Sight). s.tables.now) others.rules.sight ∙ h.tables_are;
-      choices_are = chosen-same r frames j l (ap (λ (s : Streams). s.sight) streams ∙ others.rules.sight)
-          (choices ∙ others.choices) h.choices_are;
+      tables_are = ap (λ (s : Streams). s.tables.now) streams ∙ ap (λ (b : Bor Rows). b.now) others.rules.tables
+          ∙ h.tables_are;
+      choices_are = chosen-same r frames j l (ap (λ (s : Streams). s.tables) streams ∙ others.rules.tables)
+          (ap (λ (s : Streams). s.taps) streams ∙ others.rules.taps) (choices
+          ∙ others.choices)
+          h.choices_are;
       findings_are = findings ∙ others.findings ∙ h.findings_are;
       left_out_are = left_out ∙ by-r h.left_out_are;
       latest_is = latest;
     }
 
 -- nothing is told
-pub works-none : (r : Rows × Choices) (judging : JudgingRun) → judging.streams.sight.tables.now ≡ r.0
+pub works-none : (r : Rows × Choices) (judging : JudgingRun) → judging.streams.tables.now ≡ r.0
     → choices_in judging ≡ r.1
     → judging.findings ≡ 0 → judging.left_out ≡ 0 → judging.latest ≡ 0 → WorksBy r [] judging []
 works-none r judging tables choices none some at = record {

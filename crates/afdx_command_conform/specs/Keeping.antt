@@ -66,7 +66,7 @@ given_to t c k frames (Some l) = given_with (reverse (arrivals_of t c l.vl k.sid
 
 abbrev pub given_by : Rows → Choices → List Frame → Key → Option ℕ → Given
 given_by t c frames k None =
-    given_with [] [] (map (stranger_due c.sight k) (strangers_of t c k.side k.port frames))
+    given_with [] [] (map (stranger_due t k) (strangers_of t c k.side k.port frames))
 given_by t c frames k (Some place) =
     given_to t c k frames (judged_to t c.sight k.side place k.port)
 

@@ -1,6 +1,6 @@
 -- The lines that a run writes of the frames of both roles, before its last line. Lists of frames
 -- and of lines have the newest first.
-use Rattle.std.specs.Prelude.{ℕ, ◌+◌, ◌*◌, ◌<◌, ◌≤◌, ◌≡◌, Bool, true, ⊤, Option, Some, None, List, [], ◌∷◌, ◌++◌, filter, map, reverse, if◌then◌else◌}
+use Rattle.std.specs.Prelude.{ℕ, ◌+◌, ◌*◌, ◌<◌, ◌≤◌, ◌≡◌, Bool, true, ⊤, Option, Some, None, List, [], ◌∷◌, ◌++◌, filter, map, is_some, reverse, if◌then◌else◌}
 use Rattle.std.specs.Option.{option_map_or}
 use Rattle.afdx_config.specs.Rows.{Rows, LinkRow}
 use Rattle.afdx_frame.specs.declared.link.Side.{Side}
@@ -20,10 +20,9 @@ use Rattle.afdx_conform.specs.declared.strangeness.Strangeness.TheVariants.{Shap
 use Rattle.afdx_text.specs.declared.conform_line.ConformLine.{ConformLine}
 use Rattle.afdx_text.specs.declared.conform_line.ConformLine.TheVariants as line
 use Rattle.afdx_command_conform.specs.Choices.{Choices}
-use Rattle.afdx_command_conform.specs.Frames.{arrivals_of, frames_of, strangers_of, terms_at}
+use Rattle.afdx_command_conform.specs.Frames.{arrivals_of, frames_of, strangers_of, place_named, terms_at}
 use Rattle.afdx_command_conform.specs.Keys.{is_key, key_rank}
-use Rattle.afdx_command_conform.specs.Sight.{Sight}
-use Rattle.afdx_command_conform.specs.Tapped.{is_known_in, judged_to}
+use Rattle.afdx_command_conform.specs.Tapped.{judged_to}
 use Rattle.afdx_command_conform.specs.declared.key.Key.{Key}
 use Rattle.afdx_command_conform.specs.declared.due.DueLine.{DueLine}
 
@@ -61,17 +60,17 @@ found_line k finding = line.Found k.side k.port finding
 -- ---- frames that are of no stream
 
 -- why the frame is none of the link's that its bytes name: the first that is true
-abbrev pub stranger_by : (is_known : Bool) → Option Reason → Strangeness
+abbrev pub stranger_by : (is_named : Bool) → Option Reason → Strangeness
 stranger_by true (Some UnknownLink) = NotItsPort
-stranger_by is_known (Some reason) = Shape reason
-stranger_by is_known None = NotItsPort
+stranger_by is_named (Some reason) = Shape reason
+stranger_by is_named None = NotItsPort
 
-abbrev pub stranger_reason : Sight → List ℕ → Strangeness
-stranger_reason o bytes = stranger_by (is_known_in o bytes) (fault_of None 0 bytes)
+abbrev pub stranger_reason : Rows → List ℕ → Strangeness
+stranger_reason t bytes = stranger_by (is_some (place_named t bytes)) (fault_of None 0 bytes)
 
-abbrev pub stranger_due : Sight → Key → Arrival → Due
-stranger_due o k x =
-    due_at k x.time (found_line k (Strange x.tag (stranger_reason o x.bytes)))
+abbrev pub stranger_due : Rows → Key → Arrival → Due
+stranger_due t k x =
+    due_at k x.time (found_line k (Strange x.tag (stranger_reason t x.bytes)))
 
 -- ---- what is found in a stream
 
@@ -101,7 +100,7 @@ module _ (t : Rows) (c : Choices) (until : ℕ) (frames : List Frame) where
   stream_dues k l = judged_dues (terms_at t c until l k.port) k (judged_at l k.side k.port)
 
   abbrev pub dues_by : Key → Option ℕ → List Due
-  dues_by k None = map (stranger_due c.sight k) (strangers_of t c k.side k.port frames)
+  dues_by k None = map (stranger_due t k) (strangers_of t c k.side k.port frames)
   dues_by k (Some place) =
       option_map_or (stream_dues k) (judged_to t c.sight k.side place k.port) []
 

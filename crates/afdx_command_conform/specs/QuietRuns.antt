@@ -54,13 +54,12 @@ LastLineIsQuiet =
     AreQuiet k frames
 
 -- where no stream is unseen each is judged: of each link, on each side, at each port where a system
--- gets it and it leaves what is judged
+-- gets it
 abbrev pub NoneUnseenIsJudged : Type 0
 NoneUnseenIsJudged =
     (t : Rows) (o : Sight) (side : Side) (place system : ℕ) (l : LinkRow) (s : SystemRow) →
     IsLawfulSwitch t →
     unseen_of t o ≡ 0 →
-    o.is_edge s.port ≡ true →
     slice_get t.links place ≡ Some l →
     slice_get t.systems system ≡ Some s →
     is_to system l ≡ true →

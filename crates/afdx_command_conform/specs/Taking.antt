@@ -100,7 +100,7 @@ module _ (done : Type 0 → Type 0) (old new : KeptByKey) where
     -- its stream is kept in the place of none
     abbrev pub MakesStream : Key → Type 0
     MakesStream key =
-        let t = rules.sight.tables.now in
+        let t = rules.tables.now in
         (c : Choices) (until time : ℕ) (given : Key → Given) (lines : List Due) (l : LinkRow) →
         IsLawfulSwitch t → IsStreamOf t key l → slice_get t.links outlet.link ≡ Some l →
         port_of t outlet.system.0 ≡ key.port → IsRuled rules c →
@@ -113,7 +113,7 @@ module _ (done : Type 0 → Type 0) (old new : KeptByKey) where
     -- that is given of that one
     abbrev pub TakesArrival : Arrived → Type 0
     TakesArrival x =
-        let t = rules.sight.tables.now in
+        let t = rules.tables.now in
         (c : Choices) (until time : ℕ) (given : Key → Given) (lines : List Due) (l : LinkRow) →
         slice_get t.links outlet.link ≡ Some l → is_to outlet.system.0 l ≡ true →
         IsRuled rules c →
@@ -128,7 +128,7 @@ module _ (done : Type 0 → Type 0) (old new : KeptByKey) where
     -- so is a frame that left there
     abbrev pub TakesFrame : Gone → Type 0
     TakesFrame y =
-        let t = rules.sight.tables.now in
+        let t = rules.tables.now in
         (c : Choices) (until time : ℕ) (given : Key → Given) (lines : List Due) (l : LinkRow) →
         slice_get t.links outlet.link ≡ Some l → is_to outlet.system.0 l ≡ true →
         IsRuled rules c → time ≤ y.time →
@@ -142,7 +142,7 @@ module _ (done : Type 0 → Type 0) (old new : KeptByKey) where
 abbrev pub FindsStream : ((Key → Type 0) → Type 0) → KeptByKey → KeptByKey → StreamRules → Outlet
     → Type 0
 FindsStream done old new rules outlet =
-    let t = rules.sight.tables.now in
+    let t = rules.tables.now in
     (c : Choices) (until time : ℕ) (given : Key → Given) (lines : List Due) (l : LinkRow) →
     slice_get t.links outlet.link ≡ Some l → is_to outlet.system.0 l ≡ true →
     IsRuled rules c → AreKept t c until None time given lines old →
@@ -169,7 +169,7 @@ TellsFirst done old new entry ended =
 abbrev pub StandsForMore : (Type 0 → Type 0) → Streams → Streams → Option ℕ → Frame → Type 0
 StandsForMore done old new named x =
     (t : Rows) (c : Choices) (until time : ℕ) (frames : List Frame) (lines : List Due) →
-    named ≡ place_named old.sight.tables.now x.arrival.bytes → counts t c x ≡ true →
+    named ≡ place_named old.tables.now x.arrival.bytes → counts t c x ≡ true →
     time ≤ x.arrival.time → IsBehindAll x.arrival.time frames → length frames + 1 < most_held →
     old.ended ≡ None → StreamsStand t c until frames lines time old →
     done (StreamsStand t c until (x ∷ frames) lines time new)

@@ -15,7 +15,7 @@ use Rattle.afdx_police.specs.Shape.{fault_of}
 use Rattle.afdx_police.specs.declared.shape.Reason.{Reason}
 use Rattle.afdx_police.specs.declared.shape.Reason.TheVariants.{TooShort, TooLong, BadFcs}
 use Rattle.afdx_command_conform.specs.Sight.{Sight}
-pub use Rattle.afdx_command_conform.specs.Sight.{of_tables, sight_of}
+pub use Rattle.afdx_command_conform.specs.Sight.{of_tables, sight_in}
 pub use Rattle.afdx_input_sources.specs.Tapping.{Taps, all_taps}
 
 abbrev pub is_of_came : Role → Bool
@@ -46,10 +46,6 @@ is_damage (Some reason) = false
 unfoldable pub is_damaged : List ℕ → Bool
 is_damaged bytes = is_damage (fault_of None 0 bytes)
 
--- bytes name a link that there is
-abbrev pub is_known_in : Sight → List ℕ → Bool
-is_known_in o bytes = option_map_or (λ v. o.is_known v.0) (link_named_by bytes) false
-
 module _ (t : Rows) (o : Sight) where
   -- the port at which a link comes in is recorded on this side
   abbrev pub is_heard : Side → LinkRow → Bool
@@ -75,14 +71,11 @@ module _ (t : Rows) (o : Sight) where
   judged_to side place port = option_and_then (λ l. if is_judged side l port then Some l else None)
       (link_to t place port)
 
-  -- 1 where it isn't, but leaves there what is judged; else 0
-  abbrev pub unseen_at : Side → LinkRow → ℕ → ℕ
-  unseen_at side l port = if o.is_edge port then (if is_judged side l port then 0 else 1) else 0
-
-  -- how many aren't: of a link that goes to these, of these links, of all on both sides
+  -- how many streams aren't: of a link that goes to these, of these links, of all on both sides
   unfoldable pub unseen_to : Side → LinkRow → (to : List ℕ) → ℕ
   unseen_to side l [] = 0
-  unseen_to side l (system ∷ to) = unseen_at side l (port_of t system) + unseen_to side l to
+  unseen_to side l (system ∷ to) =
+      (if is_judged side l (port_of t system) then 0 else 1) + unseen_to side l to
 
   unfoldable pub unseen_among : Side → List LinkRow → ℕ
   unseen_among side [] = 0

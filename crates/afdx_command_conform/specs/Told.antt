@@ -30,7 +30,7 @@ choices_in j = choices_of (seen_by j.streams) j.choices.now
 -- frames so many are left out, and that is the time of the last
 pub record WorksBy (k : Rows × Choices) (frames : List Frame) (judging : JudgingRun)
     (dues : List Due) : Type 0 where
-  pub tables_are : judging.streams.sight.tables.now ≡ k.0
+  pub tables_are : judging.streams.tables.now ≡ k.0
   pub choices_are : choices_in judging ≡ k.1
   pub findings_are : judging.findings ≡ min (findings_in (lines_of dues)) most_counted
   pub left_out_are : judging.left_out ≡ min (left_out_of k.0 k.1 frames) most_counted
@@ -148,7 +148,7 @@ Reaches done time old new before after =
 abbrev pub TakesNext : (Type 0 → Type 0) → JudgingRun → JudgingRun → (time : ℕ) → Frame → Type 0
 TakesNext done old new time x =
     (k : Rows × Choices) (frames : List Frame) (dues : List Due) →
-    old.streams.sight.tables.now ≡ k.0 →
+    old.streams.tables.now ≡ k.0 →
     choices_in old ≡ k.1 →
     latest_of frames ≤ time → length frames + 1 < most_held →
     Stands k false time old frames dues →

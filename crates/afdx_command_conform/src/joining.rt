@@ -31,8 +31,8 @@ fn make_stream(
     outlet: Outlet,
     key: Key,
 ) -> Result<(), AllocError>
-    requires link { outlet.link < length rules.now.sight.tables.now.links }
-    requires system { outlet.system.0 < length rules.now.sight.tables.now.systems }
+    requires link { outlet.link < length rules.now.tables.now.links }
+    requires system { outlet.system.0 < length rules.now.tables.now.systems }
     ensures { MakesStream (λ done. OnOk result done) kept.old kept.new rules.now outlet key }
 {
     let stream = new_stream(alloc, rules, outlet);
@@ -46,13 +46,13 @@ fn stream_to(
     kept: &mut KeptByKey,
     outlet: Outlet,
 ) -> Result<Key, AllocError>
-    requires link { outlet.link < length rules.now.sight.tables.now.links }
-    requires system { outlet.system.0 < length rules.now.sight.tables.now.systems }
-    ensures lawful { IsLawfulSwitch rules.now.sight.tables.now }
-    ensures key { IfOk result (λ key. key ≡ key_of rules.now.sight.tables.now outlet) }
+    requires link { outlet.link < length rules.now.tables.now.links }
+    requires system { outlet.system.0 < length rules.now.tables.now.systems }
+    ensures lawful { IsLawfulSwitch rules.now.tables.now }
+    ensures key { IfOk result (λ key. key ≡ key_of rules.now.tables.now outlet) }
     ensures stands { FindsStream (λ done. IfOk result done) kept.old kept.new rules.now outlet }
 {
-    let key = key_at(rules.sight.tables, outlet);
+    let key = key_at(rules.tables, outlet);
     if !kept.has_stream(key) {
         make_stream(alloc, rules, kept, outlet, key)?;
     }
@@ -67,8 +67,8 @@ pub(crate) fn come_to(
     outlet: Outlet,
     arrived: Arrived,
 ) -> Result<(), AllocError>
-    requires link { outlet.link < length rules.now.sight.tables.now.links }
-    requires system { outlet.system.0 < length rules.now.sight.tables.now.systems }
+    requires link { outlet.link < length rules.now.tables.now.links }
+    requires system { outlet.system.0 < length rules.now.tables.now.systems }
     ensures { TakesArrival (λ done. OnOk result done) kept.old kept.new rules.now outlet arrived }
 {
     let key = stream_to(alloc, rules, kept, outlet)?;
@@ -83,8 +83,8 @@ pub(crate) fn leave_to(
     outlet: Outlet,
     frame: LeftFrame,
 ) -> Result<(), AllocError>
-    requires link { outlet.link < length rules.now.sight.tables.now.links }
-    requires system { outlet.system.0 < length rules.now.sight.tables.now.systems }
+    requires link { outlet.link < length rules.now.tables.now.links }
+    requires system { outlet.system.0 < length rules.now.tables.now.systems }
     ensures { TakesFrame (λ done. OnOk result done) kept.old kept.new rules.now outlet
         (gone_of frame) }
 {

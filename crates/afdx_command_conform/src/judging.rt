@@ -7,7 +7,7 @@ ghost use Rattle.afdx_command_conform.specs.Choices.{Choices as Chosen, latest_o
 ghost use Rattle.afdx_command_conform.specs.Choices as asked;
 ghost use Rattle.afdx_command_conform.specs.ChoicesOf.{choices_of};
 ghost use Rattle.afdx_command_conform.specs.Judging.{IsSameButFindings, IsSameButTaken};
-ghost use Rattle.afdx_command_conform.specs.Sight.{sight_of};
+ghost use Rattle.afdx_command_conform.specs.Sight.{sight_in};
 ghost use Rattle.afdx_command_conform.specs.Tapped.{place_named};
 ghost use Rattle.afdx_command_conform.specs.Telling as spec;
 ghost use Rattle.afdx_command_conform.specs.Told.{choices_in, ClosesAt, Finishes, Follows, GoesOn, HasTold};
@@ -32,15 +32,15 @@ use crate::choices::Choices;
 use crate::due::{DueLine, add_lines, put_due};
 use crate::judge::Judge;
 use crate::kept::Lines;
-use crate::sight::Sight;
 use crate::streams::Streams;
 use crate::telling::findings_in;
 use crate::totals::Totals;
 use crate::whole::vl_named;
+use afdx_config::Tables;
 use afdx_frame::{Checked, VlId};
 use afdx_input_lines::{Role, RunFault};
 use afdx_input_runs::Seen;
-use afdx_input_sources::Machine;
+use afdx_input_sources::{Machine, Taps};
 use afdx_text::{Conclusion, ConformLine, Sink};
 use std::alloc::{AllocError, Global};
 
@@ -62,20 +62,21 @@ pub struct JudgingRun<'a> {
 }
 
 impl<'a> JudgingRun<'a> {
-    /// By what is seen of the switch, and these choices. Nothing came yet. Fails only out of
-    /// memory.
+    /// By these tables and choices, of the ports that were recorded. Nothing came yet. Fails only
+    /// out of memory.
     pub fn new(
         alloc: Global,
-        sight: Sight<'a>,
+        tables: &'a Tables,
         choices: &'a Choices,
+        taps: &'a Taps,
     ) -> Result<JudgingRun<'a>, AllocError>
         ensures { IfOk result (λ judging. IsJudgedSoFar (
-          sight.entry.tables.now,
-          choices_of (sight_of sight.entry) choices.entry.now,
+          tables.entry.now,
+          choices_of (sight_in tables.entry.now taps.entry.now) choices.entry.now,
         )
             judging [] []) }
     {
-        let streams = Streams::new(alloc, sight, choices.leeway)?;
+        let streams = Streams::new(alloc, tables, choices.leeway, taps)?;
         Ok(JudgingRun {
             alloc,
             choices,
@@ -198,12 +199,12 @@ impl<'a> JudgingRun<'a> {
         named: Option<usize>,
         frame: Checked<'_>,
     ) -> bool
-        requires { IfSome named (λ link. link < length self.now.streams.sight.tables.now.links) }
+        requires { IfSome named (λ link. link < length self.now.streams.tables.now.links) }
         ensures { (x : Frame) → x.role ≡ seen.now.role → x.arrival.side ≡ seen.now.heading.side →
             x.arrival.port ≡ seen.now.heading.port → bytes_of frame.entry ≡ x.arrival.bytes →
             vl ≡ link_named_by x.arrival.bytes →
-            named ≡ place_named self.now.streams.sight.tables.now x.arrival.bytes →
-            result ≡ asked.is_passed self.now.streams.sight.tables.now
+            named ≡ place_named self.now.streams.tables.now x.arrival.bytes →
+            result ≡ asked.is_passed self.now.streams.tables.now
             (choices_in self.now) x }
     {
         let (side, port) = (seen.heading.side, seen.heading.port);
@@ -217,7 +218,7 @@ impl<'a> JudgingRun<'a> {
         requires known { IsSealedAs seen.now.heading.seal message.now }
         ensures others { IsSameButTaken self.old self.new }
         ensures counted { (frames : List Frame) →
-            let t = self.old.streams.sight.tables.now in
+            let t = self.old.streams.tables.now in
             let c = choices_in self.old in
             let x = frame_of (item_of n seen.now message.now) in
             self.old.left_out ≡ min (left_out_of t c frames) spec.most_counted →

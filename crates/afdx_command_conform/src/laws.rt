@@ -1,7 +1,7 @@
 //! Laws over the lines of a run.
 
 ghost use Rattle.afdx_command_conform.specs.EarlyLaw.{LinesBeginEarly};
-ghost use Rattle.afdx_command_conform.specs.Sight.{TablesAreTheWhole, TablesHaveBags};
+ghost use Rattle.afdx_command_conform.specs.Sight.{TablesHaveBags};
 ghost use Rattle.afdx_command_conform.specs.QuietRuns.{LastLineIsQuiet, NoneLeftOutCounts};
 ghost use Rattle.afdx_command_conform.specs.QuietRuns.{NoneUnseenIsJudged, NothingFoundIsQuiet};
 ghost use Rattle.afdx_command_conform.specs.RunExample.{PremisesAreMet};
@@ -76,12 +76,6 @@ pub fn nothing_is_passed_over()
 /// what a run sees of a switch.
 pub fn tables_have_bags()
     ensures { TablesHaveBags }
-{}
-
-/// By tables what leaves at any port leaves what is judged, so that each stream counts, and there
-/// are their links alone: of any other a frame is of an unknown link.
-pub fn tables_are_the_whole()
-    ensures { TablesAreTheWhole }
 {}
 
 /// There is a run that meets all premises: a frame came and left in time, and there is no line; and

@@ -1,9 +1,10 @@
 //! Where the frames of the tables' links leave, and by what they are judged there.
 
 ghost use Rattle.std.specs.Prelude.{◌≡◌, ◌<◌, ◌*◌, [], IfNone, IfSome, None, Some, get_or, option_and_then, length, slice_get, true, ℕ};
-ghost use Rattle.afdx_law_bounds.specs.Tables.{port_of};
+ghost use Rattle.afdx_law_bounds.specs.Tables.{port_of, rule_of as rule_in};
 ghost use Rattle.afdx_config.specs.Lawful.{IsLawfulSwitch};
 ghost use Rattle.afdx_config.specs.Rows.{LinkRow, SystemRow, is_to};
+ghost use Rattle.afdx_police.specs.RuleOf.{rule_of};
 ghost use Rattle.afdx_conform.specs.Histories.{nothing_judged};
 ghost use Rattle.afdx_conform.specs.Standing.{StandsFor, due_of};
 ghost use Rattle.afdx_command_conform.specs.Choices.{Choices};
@@ -12,17 +13,19 @@ ghost use Rattle.afdx_command_conform.specs.Keys.{key_of};
 ghost use Rattle.afdx_command_conform.specs.Ruled.{IsRuled};
 
 use crate::key::Key;
-use crate::sight::Sight;
 use afdx_config::{SystemId, Tables};
 use afdx_conform::{Leeway, Stream};
 use afdx_frame::Side;
+use afdx_input_sources::Taps;
+use afdx_police::LinkRule;
 use std::alloc::Global;
 
-/// By what a stream is judged: what is seen of the switch, and how much stamps and clocks may be
-/// off.
+/// By what a stream is judged: the tables, which ports were recorded, and how much stamps and
+/// clocks may be off.
 #[derive(Clone, Copy)]
 pub(crate) struct StreamRules<'a> {
-    pub(crate) sight: Sight<'a>,
+    pub(crate) tables: &'a Tables,
+    pub(crate) taps: &'a Taps,
     pub(crate) leeway: Leeway,
 }
 
@@ -79,23 +82,46 @@ pub(crate) fn receiver_at(tables: &Tables, link: usize, port: u8) -> Option<Syst
     None
 }
 
+/// The rule of the link at this place.
+pub(crate) fn rule_at(tables: &Tables, place: usize) -> LinkRule
+    requires { place < length tables.now.links }
+    ensures { (l : LinkRow) → slice_get tables.now.links place ≡ Some l →
+        rule_of result ≡ rule_in tables.now l }
+{
+    let link = tables.link(place);
+    let sender = tables.system(link.from);
+    let Some(rule) = LinkRule::after_cable(
+        link.vl,
+        sender.port,
+        link.bag_ms,
+        link.lmin,
+        link.lmax,
+        link.jitter_us,
+        link.policing,
+    ) else {
+        // Never: the reading of the tables kept each value in its range.
+        unreachable!();
+    };
+    rule
+}
+
 /// A stream of which nothing came, at this outlet.
 #[cold]
 #[inline(never)]
 pub(crate) fn new_stream(alloc: Global, rules: &StreamRules<'_>, outlet: Outlet) -> Stream
-    requires link { outlet.link < length rules.now.sight.tables.now.links }
-    requires system { outlet.system.0 < length rules.now.sight.tables.now.systems }
-    ensures stands { let t = rules.now.sight.tables.now in
+    requires link { outlet.link < length rules.now.tables.now.links }
+    requires system { outlet.system.0 < length rules.now.tables.now.systems }
+    ensures stands { let t = rules.now.tables.now in
         (c : Choices) (until time port : ℕ) (l : LinkRow) →
         slice_get t.links outlet.link ≡ Some l → port_of t outlet.system.0 ≡ port →
         IsRuled rules.now c →
         StandsFor (terms_at t c until l port) [] [] nothing_judged time result }
     ensures due { due_of result ≡ None }
 {
-    let sight = rules.sight;
-    let rule = sight.rule(outlet.link);
-    let latency_ns = sight.latency_ns(outlet.link);
-    let byte_ns = sight.byte_ns(outlet.system);
+    let tables = rules.tables;
+    let rule = rule_at(tables, outlet.link);
+    let latency_ns = 1000 * tables.link(outlet.link).latency_us;
+    let byte_ns = tables.byte_ns(outlet.system);
     Stream::new(alloc, &rule, latency_ns, byte_ns, rules.leeway)
 }
 

@@ -13,7 +13,6 @@ ghost use Rattle.afdx_input_sources.specs.Engine.{CanAll, IsReadyForAll};
 use crate::choices::Choices;
 use crate::judge::Judge;
 use crate::judging::JudgingRun;
-use crate::sight::Sight;
 use afdx_config::Tables;
 use afdx_input_lines::{RecordingFault, RunFault};
 use afdx_input_runs::{Reading, RunInput, Seen, SeenCount, Tapping};
@@ -144,8 +143,7 @@ pub fn run_conform<P: Tapping + Drop, A: RunInput<P, Seen>, O: Sink>(
     A::starts();
     A::takes_none::<FrameLines>();
     let taps = options.taps();
-    let sight = Sight::of_tables(tables, &taps);
-    let mut judging = JudgingRun::new(alloc, sight, choices)?;
+    let mut judging = JudgingRun::new(alloc, tables, choices, &taps)?;
     let terms = RunTerms {
         tables,
         is_lossy: choices.is_lossy,

@@ -21,13 +21,13 @@ pub(crate) struct Stranger {
     pub(crate) why: Strangeness,
 }
 
-/// Why a frame of no stream is strange; `is_known` says whether there is the link that it names.
-pub(crate) fn why_strange(frame: Checked<'_>, is_known: bool) -> Strangeness
-    ensures { result ≡ stranger_by is_known (fault_of None 0 (bytes_of frame.entry)) }
+/// Why a frame of no stream is strange; `is_named` says whether it names a link of the tables.
+pub(crate) fn why_strange(frame: Checked<'_>, is_named: bool) -> Strangeness
+    ensures { result ≡ stranger_by is_named (fault_of None 0 (bytes_of frame.entry)) }
 {
     match judge_checked(None, 0, frame) {
         Some(Reason::UnknownLink) => {
-            if is_known {
+            if is_named {
                 Strangeness::NotItsPort
             } else {
                 Strangeness::Shape(Reason::UnknownLink)

@@ -18,31 +18,33 @@ ghost use Rattle.afdx_command_conform.specs.Slots.{told_at};
 ghost use Rattle.afdx_command_conform.specs.Awaited.{IsBefore, awaited};
 ghost use Rattle.afdx_command_conform.specs.Counting.{AreEnded, HasCounted, counted_of, none_counted};
 ghost use Rattle.afdx_command_conform.specs.Tapped as spec;
-ghost use Rattle.afdx_command_conform.specs.Sight.{sight_of};
+ghost use Rattle.afdx_command_conform.specs.Sight.{sight_in};
 ghost use Rattle.afdx_command_conform.specs.Waiting.{left_in};
 
 use crate::counting::count_streams;
 use crate::hints::Hints;
 use crate::joining::{come_to, leave_strange, leave_to};
 use crate::kept::{KeptByKey, Lines};
-use crate::outlets::{Outlet, StreamRules, receiver, receiver_at};
-use crate::sight::Sight;
+use crate::outlets::{Outlet, StreamRules, receiver, receiver_at, rule_at};
 use crate::strangers::{Stranger, is_damaged, why_strange};
-use crate::tapped::{heard_outlet, is_seen_to, unseen_of};
+use crate::tapped::{heard_outlet, is_heard, is_seen, unseen_of};
 use crate::totals::Totals;
+use afdx_config::Tables;
 use afdx_conform::{Arrived, CheckedBytes, Leeway, LeftFrame, Spare};
 use afdx_frame::{Checked, Side, VlId};
 use afdx_input_lines::{Heading, Role};
+use afdx_input_sources::Taps;
 use std::alloc::{AllocError, Global};
 
-/// What is seen of the switch, what is kept of each key of its tables, where a link is looked for
+/// What is kept of each key of the tables, which ports were recorded, where a link is looked for
 /// first, the memory of what is forgotten, and the time in ns at which the recordings end, once it
 /// is known.
 #[derive(Drop)]
 pub(crate) struct Streams<'a> {
     alloc: Global,
-    sight: Sight<'a>,
+    tables: &'a Tables,
     leeway: Leeway,
+    taps: &'a Taps,
     hints: Hints,
     spare: Spare,
     kept: KeptByKey,
@@ -56,22 +58,24 @@ impl<'a> Streams<'a> {
     /// Those of the tables, of which nothing came.
     pub(crate) fn new(
         alloc: Global,
-        sight: Sight<'a>,
+        tables: &'a Tables,
         leeway: Leeway,
+        taps: &'a Taps,
     ) -> Result<Streams<'a>, AllocError>
         ensures stands { (c : Choices) (until : ℕ) → leeway_of leeway ≡ c.by →
-            sight_of sight.entry ≡ c.sight →
-            IfOk result (λ s. StreamsStand sight.entry.tables.now c until [] [] 0 s) }
+            sight_in tables.now taps.entry.now ≡ c.sight →
+            IfOk result (λ s. StreamsStand tables.now c until [] [] 0 s) }
         ensures running { IfOk result (λ s. s.ended ≡ None) }
     {
         // (those of `Key::place`)
-        let count = 512 + 64 * sight.tables.link_count();
+        let count = 512 + 64 * tables.link_count();
         let kept = KeptByKey::new(alloc, count)?;
         Ok(Streams {
             alloc,
-            sight,
+            tables,
             leeway,
-            hints: Hints::new(alloc, sight.tables)?,
+            taps,
+            hints: Hints::new(alloc, tables)?,
             spare: Spare::new(alloc),
             kept,
             ended: None,
@@ -80,11 +84,11 @@ impl<'a> Streams<'a> {
 
     /// The place of the link that a frame names, if the tables have it.
     pub(crate) fn place_named(&self, vl: Option<VlId>) -> Option<usize>
-        ensures known { IfSome result (λ link. link < length self.now.sight.tables.now.links) }
+        ensures known { IfSome result (λ link. link < length self.now.tables.now.links) }
         ensures place { (bytes : List ℕ) → vl ≡ link_named_by bytes →
-            result ≡ spec.place_named self.now.sight.tables.now bytes }
+            result ≡ spec.place_named self.now.tables.now bytes }
     {
-        self.hints.place_named(self.sight.tables, vl)
+        self.hints.place_named(self.tables, vl)
     }
 
     /// A frame came in that names the link at this place: it comes to each of the link's streams on
@@ -96,7 +100,7 @@ impl<'a> Streams<'a> {
         heading: &Heading,
         frame: Checked<'_>,
     ) -> Result<(), AllocError>
-        requires known { IfSome named (λ link. link < length self.old.sight.tables.now.links) }
+        requires known { IfSome named (λ link. link < length self.old.tables.now.links) }
         requires time { heading.now.time ≤ latest_listed }
         requires short { length (bytes_of frame) ≤ most_bytes }
         ensures stands { StandsForMore (λ done. OnOk result done) self.old self.new named
@@ -105,20 +109,24 @@ impl<'a> Streams<'a> {
         ensures ended { self.new.ended ≡ self.old.ended }
         ensures rules { IsSameButKept self.old self.new }
     {
-        let (alloc, sight, leeway) = (self.alloc, self.sight, self.leeway);
+        let (alloc, tables, leeway, taps) = (self.alloc, self.tables, self.leeway, self.taps);
         let (side, port, time) = (heading.side, heading.port, heading.time);
         let Some(link) = named else {
             return Ok(());
         };
-        if !sight.is_heard(side, link) {
+        if !is_heard(tables, taps, side, link) {
             return Ok(());
         }
         let bytes = CheckedBytes::of(&mut self.spare, frame)?;
-        let rules = StreamRules { sight, leeway };
-        let rule = sight.rule(link);
-        for rank in 0..sight.tables.link(link).to.len() {
-            let system = receiver(sight.tables, link, rank);
-            if !is_seen_to(&sight, side, system) {
+        let rules = StreamRules {
+            tables,
+            taps,
+            leeway,
+        };
+        let rule = rule_at(tables, link);
+        for rank in 0..tables.link(link).to.len() {
+            let system = receiver(tables, link, rank);
+            if !is_seen(tables, taps, side, system) {
                 continue;
             }
             let share = bytes.share()?;
@@ -139,11 +147,11 @@ impl<'a> Streams<'a> {
         named: Option<usize>,
         frame: Checked<'_>,
     ) -> bool
-        requires { IfSome named (λ link. link < length self.now.sight.tables.now.links) }
+        requires { IfSome named (λ link. link < length self.now.tables.now.links) }
         ensures { (x : Seen) → x.role ≡ role → x.arrival.side ≡ side → x.arrival.port ≡ port →
             bytes_of frame.entry ≡ x.arrival.bytes →
-            named ≡ spec.place_named self.now.sight.tables.now x.arrival.bytes →
-            result ≡ spec.is_unheard self.now.sight.tables.now (seen_by self.now) x }
+            named ≡ spec.place_named self.now.tables.now x.arrival.bytes →
+            result ≡ spec.is_unheard self.now.tables.now (seen_by self.now) x }
     {
         match role {
             Role::Came => false,
@@ -151,10 +159,10 @@ impl<'a> Streams<'a> {
                 let Some(link) = named else {
                     return false;
                 };
-                if self.sight.is_heard(side, link) {
+                if is_heard(self.tables, self.taps, side, link) {
                     return false;
                 }
-                match receiver_at(self.sight.tables, link, port) {
+                match receiver_at(self.tables, link, port) {
                     Some(_) => !is_damaged(frame),
                     None => false,
                 }
@@ -170,7 +178,7 @@ impl<'a> Streams<'a> {
         heading: &Heading,
         frame: Checked<'_>,
     ) -> Result<(), AllocError>
-        requires known { IfSome named (λ link. link < length self.old.sight.tables.now.links) }
+        requires known { IfSome named (λ link. link < length self.old.tables.now.links) }
         requires time { heading.now.time ≤ latest_listed }
         ensures stands { StandsForMore (λ done. OnOk result done) self.old self.new named
             (frame_with role.Left (arrival_with n heading.now.time heading.now.side
@@ -178,10 +186,10 @@ impl<'a> Streams<'a> {
         ensures ended { self.new.ended ≡ self.old.ended }
         ensures rules { IsSameButKept self.old self.new }
     {
-        let (alloc, sight, leeway) = (self.alloc, self.sight, self.leeway);
+        let (alloc, tables, leeway, taps) = (self.alloc, self.tables, self.leeway, self.taps);
         let (side, port, time) = (heading.side, heading.port, heading.time);
-        if let Some((link, system)) = heard_outlet(&sight, side, named, port) {
-            if !sight.is_seen(side, port) {
+        if let Some((link, system)) = heard_outlet(tables, taps, side, named, port) {
+            if !taps.is_tapped(Role::Left, side, port) {
                 return Ok(());
             }
             let bytes = CheckedBytes::of(&mut self.spare, frame)?;
@@ -190,11 +198,15 @@ impl<'a> Streams<'a> {
                 time,
                 bytes,
             };
-            let rules = StreamRules { sight, leeway };
+            let rules = StreamRules {
+                tables,
+                taps,
+                leeway,
+            };
             let outlet = Outlet { side, link, system };
             return leave_to(alloc, &rules, &mut self.kept, outlet, left);
         }
-        let why = why_strange(frame, sight.is_known(named));
+        let why = why_strange(frame, named.is_some());
         let stranger = Stranger {
             number: n,
             time,
@@ -251,9 +263,9 @@ impl<'a> Streams<'a> {
 
     /// How many streams aren't judged.
     pub(crate) fn unseen(&self) -> u64
-        ensures { result ≡ spec.unseen_of self.now.sight.tables.now (seen_by self.now) }
+        ensures { result ≡ spec.unseen_of self.now.tables.now (seen_by self.now) }
     {
-        unseen_of(&self.sight)
+        unseen_of(self.tables, self.taps)
     }
 
     /// What is counted of all streams, on both sides.
@@ -264,10 +276,10 @@ impl<'a> Streams<'a> {
         ensures exercised { totals.new.is_exercised ≡ totals.old.is_exercised }
         ensures counted { (c : Choices) (until : ℕ) (frames : List Seen) →
             seen_by self.now ≡ c.sight →
-            AreEnded self.now.sight.tables.now c until frames self.now.kept →
+            AreEnded self.now.tables.now c until frames self.now.kept →
             HasCounted none_counted totals.old →
-            HasCounted (counted_of self.now.sight.tables.now c until frames) totals.new }
+            HasCounted (counted_of self.now.tables.now c until frames) totals.new }
     {
-        count_streams(&self.sight, &self.kept, totals);
+        count_streams(self.tables, self.taps, &self.kept, totals);
     }
 }

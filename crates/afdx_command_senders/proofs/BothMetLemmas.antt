@@ -182,7 +182,7 @@ no-dues k = by k.link
     judged place (Some l) is = stream place k.port l (is-it k.side place k.port l is)
 
     by : (o : Option ℕ) → dues_by heard_tables asked.run 2005760 frames (key_with k.side k.port o) o ≡ []
-    by None = ap (map (stranger_due asked.run.sight (key_with k.side k.port None))) (stranger-none k.side k.port)
+    by None = ap (map (stranger_due heard_tables (key_with k.side k.port None))) (stranger-none k.side k.port)
     by (Some place) = judged place (judged_to heard_tables asked.run.sight k.side place k.port) refl
 
 no-due : AreLines heard_tables asked.run 2005760 frames []

@@ -139,8 +139,7 @@ module _ (o : Outlook) (a : Asked) (taps : Taps) (c : Choices) (z : Setup) (sent
         (left_of l.vl side s.port left)
     shown side =
         let quiet = nothing_found (o.tables, c) frames dues lawful switch.are_all switch.none switch.closed side place
-        s.port l (none_unseen o.tables c.sight side place system l s lawful switch.unseen
-        (ap (λ (i : Sight). i.is_edge s.port) sees) at there goes) in
+        s.port l (none_unseen o.tables c.sight side place system l s lawful switch.unseen at there goes) in
         let seen : IsShown (terms_of c.sight l s.port) (arrivals_of o.tables c l.vl side frames)
         (frames_of o.tables c l.vl side s.port frames) =
         record { nothing = quiet.nothing; closed = quiet.closed } in

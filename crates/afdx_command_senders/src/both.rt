@@ -12,7 +12,7 @@ use crate::asked::SenderChoices;
 use crate::judging::SendersRun;
 use crate::merging::tell_merged;
 use crate::outlook::SenderOutlook;
-use afdx_command_conform::{Judge, JudgingRun, Sight};
+use afdx_command_conform::{Judge, JudgingRun};
 use afdx_input_lines::RunFault;
 use afdx_input_runs::Seen;
 use afdx_input_sources::{Machine, Taps};
@@ -38,8 +38,7 @@ impl<'a> BothRun<'a> {
             IfOk result (λ run. (z : Setup) × IsSetting (outlook_of outlook.entry) a z
             × ((output : Option (List ℕ)) → BothTellItems (z, a) run output output [])) }
     {
-        let sight = Sight::of_tables(outlook.tables, taps);
-        let switch = JudgingRun::new(alloc, sight, asked.choices)?;
+        let switch = JudgingRun::new(alloc, outlook.tables, asked.choices, taps)?;
         let senders = SendersRun::new(alloc, outlook, asked, taps)?;
         Ok(BothRun { switch, senders })
     }

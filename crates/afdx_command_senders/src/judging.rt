@@ -35,7 +35,7 @@ use crate::outlook::SenderOutlook;
 use crate::recorded::recorded_ports;
 use crate::texts::lines_of;
 use afdx_command_conform::{
-    Judge, Sight, findings_in, is_in_time, is_left_out, put_lines, unseen_of, vl_named,
+    Judge, findings_in, is_in_time, is_left_out, put_lines, unseen_of, vl_named,
 };
 use afdx_config::Tables;
 use afdx_input_lines::{Role, RunFault};
@@ -290,9 +290,7 @@ impl Judge for SendersRun<'_> {
 
     fn conclusion(&self) -> Conclusion {
         let senders = self.totals();
-        let taps = Taps::none();
-        let sight = Sight::of_tables(self.tables, &taps);
-        let unseen = unseen_of(&sight);
+        let unseen = unseen_of(self.tables, &Taps::none());
         let answer = answer_by(self.findings, senders.sent);
         Conclusion {
             answer,

@@ -1,12 +1,10 @@
 -- What the words say of how a recording is read: each option by its name.
-use Rattle.std.specs.Prelude.{ℕ, ◌≡◌, ◌≤◌, ◌*◌, ◌||◌, Bool, List, Option, Some, None, codes, unwrap_or, option_map, false, if◌then◌else◌}
+use Rattle.std.specs.Prelude.{ℕ, ◌≡◌, ◌||◌, Bool, List, Option, codes, unwrap_or, option_map, false, if◌then◌else◌}
 use Rattle.std.specs.Str.{bytes_eq}
 use Rattle.std.specs.Option.{option_map_or}
 use Rattle.clap.specs.Words.{first_value}
 use Rattle.clap.specs.declared.parser.matches.Found.{Found}
 use Rattle.afdx_input_sources.specs.declared.becoming.RecordingOptions.{RecordingOptions}
-use Rattle.afdx_input_sources.specs.declared.hold.Hold.{Hold}
-use Rattle.afdx_input_sources.specs.declared.hold.Hold.TheVariants.{Within, Live}
 use Rattle.afdx_command_words.specs.Said.{SaysFlag, SaysNumber}
 
 -- by how many arrivals times may go back where that isn't said: by none where each line is told at
@@ -26,20 +24,12 @@ module _ (found : Found) where
       × SaysFlag found (codes "line-buffered") line_buffered
       × (reorder ≡ unwrap_or said (usual_reorder line_buffered))
 
-  -- how long an arrival is held: by so many ms, where that is said, else by so many arrivals
-  abbrev pub HoldsBy : (live : Option ℕ) → Hold → Type 0
-  HoldsBy (Some ms) hold = (ms ≤ 10000) × (hold ≡ Live (ms * 1000000))
-  HoldsBy None hold = (most : ℕ) × SaysReorder most × (hold ≡ Within most)
-
-  abbrev pub SaysHold : Hold → Type 0
-  SaysHold hold = (live : Option ℕ) × SaysNumber found (codes "live") live × HoldsBy live hold
-
   -- all that they say but of places
-  pub record SaysRecording (fcs : Option Bool) (origin : Option ℕ) (hold : Hold)
+  pub record SaysRecording (fcs : Option Bool) (origin : Option ℕ) (reorder : ℕ)
       (from_start : Bool) : Type 0 where
     pub check_sequence : fcs ≡ is_said (codes "fcs") (codes "yes")
     pub time_zero : SaysNumber found (codes "origin") origin
-    pub order : SaysHold hold
+    pub order : SaysReorder reorder
     pub bit : from_start ≡ unwrap_or (is_said (codes "stamps") (codes "start")) false
 
   -- whether the option of stamps has one of two words
@@ -51,6 +41,6 @@ module _ (found : Found) where
   -- what those of `conform` say: the first word of two is for what came, the second for what left
   pub record SaysSeen (said : RecordingOptions) : Type 0 where
     pub check_sequence : said.fcs ≡ is_said (codes "fcs") (codes "yes")
-    pub order : SaysHold said.hold
+    pub order : SaysReorder said.reorder
     pub came_bit : said.from_start ≡ says_either (codes "start") (codes "start-end")
     pub left_bit : said.left_from_start ≡ says_either (codes "start") (codes "end-start")

@@ -6,7 +6,7 @@ ghost use Rattle.clap.specs.Words.{first_value, found_of};
 ghost use Rattle.afdx_command_words.specs.ConformSaid.{NamesLink, SaysConform};
 ghost use Rattle.afdx_command_words.specs.Said.{SaysFlag, SaysNumber, words_of};
 
-use crate::recording_words::{Refused, live_option};
+use crate::recording_words::Refused;
 use crate::said::{is_given, number_of};
 use crate::seen_words::{
     came_option, left_option, lossy_option, seen_fcs_option, seen_reorder_option,
@@ -57,14 +57,14 @@ Without options the stamps are exact, and both switches were reset before the fi
 line. It is never said of a right switch that it deviates, if stamps and clocks differ
 by no more than the options say. The tables of CONFIG need not be admitted.
 
-One input, or one of --interface, --left, --fcs, --stamps, --reorder, --live and
---lossy, says that each input is a recording. Of one input --interface and --left name
-interfaces of it, of two those of CAME and those of LEFT. What others recorded is left
-out. Only links of which the sender's port and an output port were recorded are judged
-there. Time 0 is the moment of the first frame. The last line doesn't come where a
-recording has no interface K of --interface or --left: the fault is 'recording Absent
-K'. Nor does it where a recorder lost N frames by its own word: 'recording Lossy N',
-unless --lossy is given.
+One input, or one of --interface, --left, --fcs, --stamps, --reorder and --lossy, says
+that each input is a recording. Of one input --interface and --left name interfaces of
+it, of two those of CAME and those of LEFT. What others recorded is left out. Only links
+of which the sender's port and an output port were recorded are judged there. Time 0 is
+the moment of the first frame. The last line doesn't come where a recording has no
+interface K of --interface or --left: the fault is 'recording Absent K'. Nor does it
+where a recorder lost N frames by its own word: 'recording Lossy N', unless --lossy is
+given.
 
 CONFIG may describe several switches a side. --switch names the one that is judged;
 CAME then has all that came to it, from its systems and by its cables, and each
@@ -204,7 +204,6 @@ fn with_recordings<'a>(alloc: Global, command: Command<'a>) -> Result<Command<'a
         left_option(alloc),
         seen_fcs_option(alloc),
         seen_reorder_option(alloc),
-        live_option(alloc, "LEFT")?,
         seen_stamps_option(alloc),
         lossy_option(alloc),
     ]?;

@@ -1,8 +1,7 @@
 //! The words of `list`.
 
 use crate::recording_words::{
-    SECOND_LIST, fcs_option, live_option, origin_option, reorder_option, second_list,
-    sited_interface_option, stamps_option,
+    fcs_option, origin_option, reorder_option, second_list, sited_interface_option, stamps_option,
 };
 use crate::words::{
     CONFIG_HELP, command, explain_option, line_buffered, progress_option, summary_option, word,
@@ -49,7 +48,6 @@ pub fn list_command<'a>(alloc: Global) -> Result<Command<'a>, AllocError> {
         fcs_option(alloc),
         origin_option(alloc),
         reorder_option(alloc),
-        live_option(alloc, SECOND_LIST)?,
         stamps_option(alloc),
         explain_option(alloc),
         line_buffered(alloc),

@@ -4,14 +4,14 @@ ghost use Rattle.std.specs.Prelude.{◌≡◌, codes, unwrap_or, IfOk, false};
 ghost use Rattle.clap.specs.Words.{found_of};
 ghost use Rattle.afdx_frame.specs.declared.link.Side.TheVariants.{A, B};
 ghost use Rattle.afdx_command_words.specs.Placed.{AreCame, AreCameOn};
-ghost use Rattle.afdx_command_words.specs.RecordingSaid.{SaysHold, SaysRecording, SaysReorder, is_said};
+ghost use Rattle.afdx_command_words.specs.RecordingSaid.{SaysRecording, SaysReorder, is_said};
 ghost use Rattle.afdx_command_words.specs.Said.{SaysNumber, words_of};
 
 use crate::misplaced::BadPlace;
 use crate::place_words::{interfaces_in, pair_interfaces_in};
 use crate::said::{is_given, is_word, number_of};
 use afdx_frame::BySide;
-use afdx_input_sources::{Hold, PairOptions, RecordingOptions};
+use afdx_input_sources::{PairOptions, RecordingOptions};
 use clap::{Arg, ArgAction, ArgMatches, value_parser};
 use std::alloc::{AllocError, Global};
 
@@ -92,29 +92,6 @@ pub fn reorder_option<'a>(alloc: Global) -> Arg<'a> {
         .value_name("N")
 }
 
-/// The most that `--live` may say, in ms.
-const MOST_LIVE: u64 = 10_000;
-
-/// Ns in a ms.
-const NS_IN_MS: u64 = 1_000_000;
-
-const LIVE_HELP: &str = "\
-In the place of --reorder, of one recording: times may go back by MS ms
-behind the greatest stamp, at most 10,000; what came is told as soon as
-a stamp is so far ahead";
-
-/// The option that says by how many ms times may go back: a clock, and no count, says how long an
-/// arrival is held. It is for one recording; the word of the second has this name.
-pub(crate) fn live_option<'a>(alloc: Global, second: &'a str) -> Result<Arg<'a>, AllocError> {
-    Arg::new(alloc, "live")
-        .help(LIVE_HELP)
-        .value_parser(value_parser!(u64))
-        .long("live")
-        .value_name("MS")
-        .conflicts_with("reorder")?
-        .conflicts_with(second)
-}
-
 const STAMPS_HELP: &str = "\
 Whether the recorder stamps the end of a frame, as most do, or its
 start";
@@ -134,12 +111,9 @@ const SECOND_HELP: &str = "\
 The path of the recording of network B, or - for standard input; the first LIST is
 then that of network A";
 
-/// The name of that word.
-pub(crate) const SECOND_LIST: &str = "LIST_B";
-
 /// The word that names a second recording, which may be absent.
 pub fn second_list<'a>(alloc: Global) -> Arg<'a> {
-    Arg::new(alloc, SECOND_LIST)
+    Arg::new(alloc, "LIST_B")
         .value_name("LIST")
         .help(SECOND_HELP)
 }
@@ -150,8 +124,8 @@ pub enum Refused<'a> {
     /// A word of `--interface` or `--left` has another form, its interface was named before, or a
     /// switch is named where there can be none; or `conform` lacks one of both.
     BadInterface(BadPlace<'a>),
-    /// The number of `--origin` is over 2^63 - 1, that of `--reorder` over 100,000, or that of
-    /// `--live` over 10,000; a number of `conform` is out of its range.
+    /// The number of `--origin` is over 2^63 - 1, or that of `--reorder` over 100,000; a number of
+    /// `conform` is out of its range.
     BadNumber,
     /// Both recordings, or both lists, are standard input.
     SameInput,
@@ -184,7 +158,7 @@ fn origin_in<'a>(matches: &ArgMatches<'a>) -> Result<Option<u64>, Refused<'a>>
 
 /// By how many arrivals times may go back: a command that tells each line at once holds nothing
 /// where it isn't said.
-fn reorder_in<'a>(matches: &ArgMatches<'a>) -> Result<u32, Refused<'a>>
+pub(crate) fn reorder_in<'a>(matches: &ArgMatches<'a>) -> Result<u32, Refused<'a>>
     ensures { IfOk result (SaysReorder (found_of matches.now)) }
 {
     let holds_nothing = is_given(matches, "line-buffered");
@@ -196,22 +170,11 @@ fn reorder_in<'a>(matches: &ArgMatches<'a>) -> Result<u32, Refused<'a>>
     }
 }
 
-/// How long an arrival is held: by so many ms, where that is said, else by so many arrivals.
-pub(crate) fn hold_in<'a>(matches: &ArgMatches<'a>) -> Result<Hold, Refused<'a>>
-    ensures { IfOk result (SaysHold (found_of matches.now)) }
-{
-    match number_of(matches, "live") {
-        Some(ms) if ms > MOST_LIVE => Err(Refused::BadNumber),
-        Some(ms) => Ok(Hold::Live(ms * NS_IN_MS)),
-        None => Ok(Hold::Within(reorder_in(matches)?)),
-    }
-}
-
 /// What is said of the recorder's clock and of its order.
 #[derive(Clone, Copy, Debug)]
 struct Moments {
     origin: Option<u64>,
-    hold: Hold,
+    reorder: u32,
     /// Whether the stamps of frames' first bits are meant.
     from_start: bool,
 }
@@ -220,23 +183,23 @@ struct Moments {
 fn moments_in<'a>(matches: &ArgMatches<'a>) -> Result<Moments, Refused<'a>>
     ensures origin { IfOk result (λ said.
         SaysNumber (found_of matches.now) (codes "origin") said.origin) }
-    ensures hold { IfOk result (λ said. SaysHold (found_of matches.now) said.hold) }
+    ensures reorder { IfOk result (λ said. SaysReorder (found_of matches.now) said.reorder) }
     ensures bit { IfOk result (λ said. said.from_start ≡ unwrap_or
         (is_said (found_of matches.now) (codes "stamps") (codes "start")) false) }
 {
     let origin = origin_in(matches)?;
-    let hold = hold_in(matches)?;
+    let reorder = reorder_in(matches)?;
     let from_start = is_word(matches, "stamps", "start").unwrap_or(false);
     Ok(Moments {
         origin,
-        hold,
+        reorder,
         from_start,
     })
 }
 
 /// Whether an option is given that is about recordings alone.
 fn are_given(matches: &ArgMatches<'_>) -> bool {
-    for name in ["interface", "fcs", "origin", "reorder", "live", "stamps"] {
+    for name in ["interface", "fcs", "origin", "reorder", "stamps"] {
         if matches.contains_id(name) {
             return true;
         }
@@ -252,7 +215,7 @@ pub fn recording_options<'a>(
     several: bool,
 ) -> Result<RecordingOptions, Refused<'a>>
     ensures reading { IfOk result (λ said. SaysRecording (found_of matches.now)
-        said.fcs said.origin said.hold said.from_start) }
+        said.fcs said.origin said.reorder said.from_start) }
     ensures places { IfOk result (λ said.
         AreCame (words_of (found_of matches.now) (codes "interface")) said.interfaces) }
 {
@@ -266,7 +229,7 @@ pub fn recording_options<'a>(
         origin: moments.origin,
         network: None,
         is_second: false,
-        hold: moments.hold,
+        reorder: moments.reorder,
         from_start: moments.from_start,
         left_from_start: false,
         are_given: are_given(matches),
@@ -280,7 +243,7 @@ pub fn pair_options<'a>(
     lists: BySide<&str>,
 ) -> Result<PairOptions, Refused<'a>>
     ensures reading { IfOk result (λ said. SaysRecording (found_of matches.now)
-        said.fcs said.origin said.hold said.from_start) }
+        said.fcs said.origin said.reorder said.from_start) }
     ensures places_a { IfOk result (λ said. AreCameOn A
         (words_of (found_of matches.now) (codes "interface")) said.interfaces.a) }
     ensures places_b { IfOk result (λ said. AreCameOn B
@@ -296,7 +259,7 @@ pub fn pair_options<'a>(
         interfaces,
         fcs: fcs_in(matches),
         origin: moments.origin,
-        hold: moments.hold,
+        reorder: moments.reorder,
         from_start: moments.from_start,
     })
 }

@@ -10,7 +10,7 @@ ghost use Rattle.afdx_command_words.specs.Said.{words_of};
 use crate::misplaced::{BadPlace, Given, Misplaced};
 use crate::place_words::{place_on, put_new, sided_in};
 use crate::recording_words::{
-    Refused, fcs_in, fcs_option, hold_in, interface_option, reorder_option,
+    Refused, fcs_in, fcs_option, interface_option, reorder_in, reorder_option,
 };
 use crate::words::flag;
 use afdx_input_lines::ByRole;
@@ -86,7 +86,7 @@ pub(crate) fn lossy_option<'a>(alloc: Global) -> Arg<'a> {
 
 /// Whether an option is given that is about recordings.
 fn are_recordings(matches: &ArgMatches<'_>) -> bool {
-    for name in ["interface", "left", "fcs", "reorder", "live", "stamps"] {
+    for name in ["interface", "left", "fcs", "reorder", "stamps"] {
         if matches.contains_id(name) {
             return true;
         }
@@ -159,7 +159,7 @@ fn options_of<'a>(
     ensures reading { IfOk result (SaysSeen (found_of matches.now)) }
     ensures places { IfOk result (λ said. said.interfaces ≡ interfaces) }
 {
-    let hold = hold_in(matches)?;
+    let reorder = reorder_in(matches)?;
     Ok(RecordingOptions {
         interfaces,
         leaves_unsaid: true,
@@ -167,7 +167,7 @@ fn options_of<'a>(
         origin: None,
         network: None,
         is_second: false,
-        hold,
+        reorder,
         from_start: stamps_are(matches, "start", "start-end"),
         left_from_start: stamps_are(matches, "start", "end-start"),
         are_given: true,

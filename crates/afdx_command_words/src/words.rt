@@ -3,8 +3,8 @@
 use crate::conform_words::conform_command;
 use crate::list_words::list_command;
 use crate::recording_words::{
-    SECOND_LIST, fcs_option, interface_option, live_option, origin_option, reorder_option,
-    second_list, sited_interface_option, stamps_option,
+    fcs_option, interface_option, origin_option, reorder_option, second_list,
+    sited_interface_option, stamps_option,
 };
 use crate::solve_words::solve_command;
 use clap::{Arg, ArgAction, Command, value_parser};
@@ -253,7 +253,6 @@ fn replay_command<'a>(alloc: Global) -> Result<Command<'a>, AllocError> {
         fcs_option(alloc),
         origin_option(alloc),
         reorder_option(alloc),
-        live_option(alloc, SECOND_LIST)?,
         stamps_option(alloc),
         explain_option(alloc),
         line_buffered(alloc),

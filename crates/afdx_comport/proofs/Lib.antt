@@ -1,4 +1,3 @@
 pub mod HeldLemmas
 pub mod PlaceLemmas
 pub mod CallLemmas
-pub mod HeardLemmas

@@ -11,7 +11,7 @@ use Rattle.std.proofs.lemmas.List.{map-append}
 use Rattle.std.proofs.lemmas.List.Elements.{filter-append}
 use Rattle.std.proofs.lemmas.List.Folds.{position_or_len-set}
 use Rattle.std.proofs.Math.ListN.{get_or, length-set}
-use Rattle.std.proofs.lemmas.Option.{get_or_from_slice_get, slice_get_within}
+use Rattle.std.proofs.lemmas.Option.{get_or_from_slice_get, slice_get_within, slice_get_read}
 use Rattle.std.specs.HashMap as hash
 use Rattle.std.specs.HashMap.{HashMap}
 use Rattle.afdx_frame.specs.declared.link.VlId.{VlId}
@@ -65,7 +65,7 @@ place_none p n (x ∷ xs) h =
     let both : (p x ≡ false) × (list_any p xs ≡ false) = or_parts (p x) (list_any p xs) h in
     cond-false (p x) (Some n) (position_from p (n + 1) xs) both.0 ∙ place_none p (n + 1) xs both.1
 
-pub position_none : (p : ComPort → Bool) (xs : List ComPort) → list_any p xs ≡ false → position p xs ≡ None
+position_none : (p : ComPort → Bool) (xs : List ComPort) → list_any p xs ≡ false → position p xs ≡ None
 position_none p xs h = position_from-zero p xs ∙ place_none p 0 xs h
 
 -- a place that is found is one of the list
@@ -280,3 +280,12 @@ found_stay ports place port held here found q p e = at (cases_eq q place)
     at (inr other) =
         stays ports place p.link.0 p.udp port held here
         ∙ found q p (sym (slice_get-set_there ports place q changed other) ∙ e)
+
+pub both_stay : {S : Type 0} (places : HashMap (VlId × ℕ) ℕ S) (ports : List ComPort) (place : ℕ)
+    (port : ComPort) (held : PortMemory) → place < length ports → port ≡ get_or ports place port →
+    PlacesAreOf places ports × AreFound ports →
+    PlacesAreOf places (slice_set ports place (record port { held = held }))
+    × AreFound (slice_set ports place (record port { held = held }))
+both_stay places ports place port held within read both =
+    let here : slice_get ports place ≡ Some port = slice_get_read ports (length ports) place port refl within read in
+    (places_stay places ports place port held here both.0, found_stay ports place port held here both.1)

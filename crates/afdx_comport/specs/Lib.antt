@@ -1,7 +1,6 @@
 pub mod Messages
 pub mod Held
 pub mod Ports
-pub mod Heard
 pub mod Laws
 pub mod Words
 pub mod Calls

@@ -9,7 +9,6 @@ ghost use Rattle.afdx_comport.specs.Held.{without_first, with_spare, has_spare};
 ghost use Rattle.afdx_comport.specs.declared.fault.PutFault.TheVariants.{Full, Memory};
 
 use crate::fault::PutFault;
-use crate::heard::HeardLinks;
 use crate::held::{PortMemory, Queue};
 use afdx_config::{ComRow, Kind, SystemId, Tables};
 use afdx_frame::VlId;
@@ -55,8 +54,6 @@ pub struct ComPorts {
     /// By the row of a link in the tables, the place where its port is looked for first. Nothing
     /// rests on it.
     hints: Vec<u16>,
-    /// The links of its ports.
-    heard: HeardLinks,
 }
 
 impl Drop for ComPorts {
@@ -67,7 +64,6 @@ impl Drop for ComPorts {
             places,
             ports,
             hints,
-            heard,
         } = self;
     }
 }
@@ -75,15 +71,13 @@ impl Drop for ComPorts {
 impl Model for ComPorts {
     ghost use Rattle.std.specs.Prelude.{List};
     ghost use Rattle.afdx_comport.specs.Ports.{PlacesAreOf, AreFound};
-    ghost use Rattle.afdx_comport.specs.Heard.{AreHeard};
     ghost use Rattle.afdx_comport.specs.declared.com_ports.ComPort.{ComPort};
 
     ghost Value = { List ComPort };
 
     ghost view = { λ c. c.ports.items };
 
-    ghost invariant = { λ c. PlacesAreOf c.places c.ports.items × AreFound c.ports.items
-        × AreHeard c.heard.marks c.ports.items };
+    ghost invariant = { λ c. PlacesAreOf c.places c.ports.items × AreFound c.ports.items };
 }
 
 /// Notes where to look for the port of the link in this row first.
@@ -110,14 +104,12 @@ impl ComPorts {
         let mut ports = Vec::new(alloc);
         let mut hints = Vec::new(alloc);
         hints.resize(tables.link_count(), 0)?;
-        let mut heard = HeardLinks::new();
         let count = tables.com_count();
         for index in 0..count {
             let row = tables.com(index);
             if row.system == system {
                 let place = ports.len();
                 note(&mut hints, tables.link_of(row.link), place);
-                heard.add(row.link);
                 places.insert((row.link, row.udp), place)?;
                 ports.push(ComPort::new(alloc, row)?)?;
             }
@@ -127,7 +119,6 @@ impl ComPorts {
             places,
             ports,
             hints,
-            heard,
         })
     }
 
@@ -138,9 +129,6 @@ impl ComPorts {
         ensures place { result ≡ position (is_for link.0 udp) self.now }
         ensures known { IfSome result (λ place. place < length self.now) }
     {
-        if !self.heard.may_hold(link) {
-            return None;
-        }
         self.places.get(&(link, udp)).copied()
     }
 

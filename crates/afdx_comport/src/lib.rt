@@ -6,7 +6,6 @@
 
 mod com_ports;
 mod fault;
-mod heard;
 mod held;
 pub mod laws;
 

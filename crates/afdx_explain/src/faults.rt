@@ -27,12 +27,12 @@ LEFT.",
     (
         "words BadNumber",
         "\
-The number of --origin is over 2^63 - 1, that of --reorder over 100,000, that of --live over 10,000,
-or one of 'conform' out of its range.
+The number of --origin is over 2^63 - 1, that of --reorder over 100,000, or one of 'conform' out of
+its range.
 --origin is the moment that is time 0, in ns since 1970; --reorder is by how many arrivals times
-may go back, --live by how many ms. --slack, --inner and --asked are at most 1,000,000 ns,
---between and --apart 100,000,000 ns, --drift 1,000 millionths, --from and --until 10^15 ns;
---leave-out is 0 to 65535, or the word other.",
+may go back. --slack, --inner and --asked are at most 1,000,000 ns, --between 100,000,000 ns,
+--drift 1,000 millionths, --from and --until 10^15 ns; --leave-out is 0 to 65535, or the word
+other.",
     ),
     (
         "words SameInput",

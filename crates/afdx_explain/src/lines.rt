@@ -126,9 +126,7 @@ later one for a copy. - where no system gets the link.
 It is the least, over these systems, of what the skew leaves of the latencies on the way there
 beyond the time that the link's shortest frame takes at least, lmin and 8 bytes more on each line.
 0 is not what an end system keeps, since it hands the copies over one after the other: 'solve
---apart NS' makes room for more.
-With a number, a side and a port behind it the line is of 'conform --senders': a copy was sent too
-late. Give explain that whole line.",
+--apart NS' makes room for more.",
     ),
     (
         "\

@@ -10,8 +10,7 @@ ghost use Rattle.afdx_input_lines.specs.SubmissionLines.{submission_fields_of, s
 
 use crate::fault::{LineError, LineFault};
 use crate::fields::{
-    fault_of_time, first_error, read_bytes, says_nothing, split_long_number, split_number,
-    trim_line,
+    fault_of_time, first_error, read_bytes, says_nothing, split_number, trim_line,
 };
 
 /// When a message is handed to a sender, and for what.
@@ -95,7 +94,7 @@ fn read_fields(text: &[u8]) -> Option<Fields<'_>>
     ensures { if_no_more submission_form (option_map submission_fields_of result)
         ≡ option_map cut_submission (submission_fields text.now) }
 {
-    let (time, rest) = split_long_number(text);
+    let (time, rest) = split_number(text);
     let Some(text) = rest else {
         return None;
     };

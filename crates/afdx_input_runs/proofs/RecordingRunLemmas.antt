@@ -27,9 +27,7 @@ use Rattle.afdx_input_sources.specs.NumberLines.{Lines, arrivals_listed}
 use Rattle.afdx_input_sources.specs.OrderedRecording.{OrderedRecording, IsSetInOrder, IsUnread, tally_of_source}
 use Rattle.afdx_input_sources.specs.OrderedRecording.{HasTaken, HasTakenAll, HasStoppedTaking}
 use Rattle.afdx_input_sources.specs.OrderedSource.{AreHeld}
-use Rattle.afdx_input_sources.specs.Ordering.{Sequence, forward, handed_on, held_behind, in_order, newest_stamp, unreached}
-use Rattle.afdx_input_sources.specs.declared.hold.Hold.{Hold}
-use Rattle.afdx_input_sources.specs.declared.hold.Hold.TheVariants.{Within, Live}
+use Rattle.afdx_input_sources.specs.Ordering.{Sequence, forward, handed_on, in_order}
 use Rattle.afdx_input_runs.specs.ReadPair.{IsNewOne}
 use Rattle.afdx_input_runs.specs.RecordingRun.{IsAskedOnce}
 use Rattle.afdx_input_sources.specs.RecordingSource.{first_standing, HasRead}
@@ -272,30 +270,18 @@ read-start remaining input source sound ended new = record {
   };
 }
 
-none-kept : (hold : Hold) → held_behind hold [] ≡ []
-unfolding in_order unreached
-none-kept (Within most) = take-nil most
-none-kept (Live ns) = refl
-
-none-held : (hold : Hold) (held : List (Item Number)) → held ≡ [] → AreHeld hold [] held []
+none-held : (most : ℕ) (held : List (Item Number)) → held ≡ [] → AreHeld most [] held []
 unfolding in_order handed_on
-none-held hold held e = record {
-  most = 0;
-  due = [];
-  are_held = rw e (IsPermutation-refl []);
-  parts = sym (ap (λ (xs : Numbers). xs ++ []) (none-kept hold));
-  handed = refl;
-}
+none-held most held e = record { are_held = rw (e, take-nil most) (IsPermutation-refl []); handed = refl }
 
 pub gave-start : {R : Type 0} (remaining : R → Option (List ℕ)) (input : Watched R) (source : OrderedRecording)
     → input.failed ≡ false → has_ended input ≡ false → IsUnread source → HasTaken remaining input source input []
-unfolding latest_of forward newest_stamp
+unfolding latest_of forward
 gave-start remaining input source sound ended new = record {
   read = [];
   are_forward = record { numbered = tt; few = omega arith; forward_is = refl };
   latest = new.latest;
-  newest = new.newest;
-  stands = rw new.stage (read-start remaining input source sound ended new, none-held source.hold source.held new.held);
+  stands = rw new.stage (read-start remaining input source sound ended new, none-held source.most source.held new.held);
 }
 
 module _ (o : RecordingOptions) (p : SystemPorts) (source : TimedNumbers OrderedRecording)

@@ -18,7 +18,6 @@ use Rattle.afdx_input_sources.specs.Taking.{Taken, AreCutOff, AreCutOffAtOne, se
 use Rattle.afdx_input_runs.specs.TakenRun.{HasNoFault}
 use Rattle.afdx_input_sources.specs.declared.counts.Tally.{Tally}
 use Rattle.afdx_input_sources.specs.declared.becoming.RecordingOptions.{RecordingOptions}
-use Rattle.afdx_input_sources.specs.declared.hold.Hold.{Hold}
 use Rattle.afdx_input_sources.specs.declared.senders.SystemPorts.{SystemPorts}
 use Rattle.afdx_input_sources.specs.declared.timed_numbers.TimedNumbers.{TimedNumbers}
 use Rattle.afdx_input_sources.specs.declared.timed_pair.TimedPair.{TimedPair}
@@ -80,17 +79,17 @@ module _ (whole : Taken) (AreCut : Lines → Type 0) (lines : Lines) where
 -- ---- of one recording
 
 abbrev pub Set : Type 0
-Set = (RecordingOptions × SystemPorts) × Hold
+Set = (RecordingOptions × SystemPorts) × ℕ
 
 abbrev set_of : OrderedRecording → Set
-set_of source = ((source.source.options, source.source.ports), source.hold)
+set_of source = ((source.source.options, source.source.ports), source.most)
 
 abbrev pub way_of_one : TimedNumbers OrderedRecording → Set × Option ℕ
 way_of_one source = (set_of source.numbers, source.clock.said)
 
--- arrivals are held so long, and time 0 is that moment, as the options say
+-- so many arrivals may come late, and time 0 is that moment, as the options say
 pub record IsSetOne (s : Set × Option ℕ) : Type 0 where
-  pub order : s.0.1 ≡ s.0.0.0.hold
+  pub order : s.0.1 ≡ s.0.0.0.reorder
   pub said : s.1 ≡ s.0.0.0.origin
 
 abbrev pub whole_of_one : Set × Option ℕ → List ℕ → Taken
@@ -123,8 +122,8 @@ way_of_two source =
     (set_of source.pair.first.source, set_of source.pair.second.source, source.clock.said)
 
 pub record IsSetTwo (s : Set × Set × Option ℕ) : Type 0 where
-  pub order_a : s.0.1 ≡ s.0.0.0.hold
-  pub order_b : s.1.1 ≡ s.1.0.0.hold
+  pub order_a : s.0.1 ≡ s.0.0.0.reorder
+  pub order_b : s.1.1 ≡ s.1.0.0.reorder
 
 abbrev pub of_set : Set → List ℕ → Sequence
 of_set s bytes = sequence_of_bytes (options_of s.0.0) (ports_of s.0.1) bytes

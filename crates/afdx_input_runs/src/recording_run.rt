@@ -25,8 +25,8 @@ use std::io::Read;
 ///
 /// The machine can tell each arrival that came in where the options say, or the bytes of a frame.
 ///
-/// Arrivals are told by their moments. One is told once it needn't be held any more (`Hold`), or
-/// the end or a fault was read; its whole text is handed to `output` before the next frame is
+/// Arrivals are told by their moments. One is told once `reorder` others were read that come behind
+/// it, or the end or a fault was; its whole text is handed to `output` before the next frame is
 /// read. The first fault ends the run; the text of the arrivals before it stands written, but for
 /// those that are held where a device or memory fails. `RunFault::Read` and
 /// `RunFault::Write` come exactly where the input's or the output's device failed; neither is tried

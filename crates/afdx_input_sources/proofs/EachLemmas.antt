@@ -1,16 +1,14 @@
 -- What holds of each number of a recording holds of each that is handed on, and of each of two that
 -- are read at once.
-use Rattle.std.proofs.Common.{ℕ, suc, zero, List, [], ◌∷◌, ◌++◌, length, take, drop, subst, sym}
+use Rattle.std.proofs.Common.{ℕ, suc, zero, List, [], ◌∷◌, ◌++◌, take, drop}
 use Rattle.std.proofs.Common.{Bool, true, false, if◌then◌else◌}
 use Rattle.afdx_input_sources.specs.Engine.{Item}
-use Rattle.afdx_input_sources.specs.declared.hold.Hold.{Hold}
 use Rattle.afdx_input_sources.specs.declared.number.Number.{Number}
 use Rattle.afdx_input_sources.specs.declared.merged.Nth.{Nth}
 use Rattle.afdx_input_sources.specs.declared.merged.Nth.TheVariants.{First, Second}
 use Rattle.afdx_input_sources.specs.MergedSource.{OfTwo, items_of, taken_of, with_own}
-use Rattle.afdx_input_sources.specs.Ordering.{all_handed, handed_on, hands_on, held_behind, in_order, is_later, put_among}
+use Rattle.afdx_input_sources.specs.Ordering.{all_handed, handed_on, hands_on, in_order, is_later, put_among}
 use Rattle.afdx_input_sources.specs.Sequences.{Numbers, is_arrival}
-use Rattle.afdx_input_sources.proofs.HandingLemmas.{held-first}
 
 -- ---- each of a list
 
@@ -62,30 +60,23 @@ module _ (P : Item Number → Type 0) where
       by true rest = each-put x (in_order past) h.0 rest
       by false rest = rest
 
-  pub each-held : (hold : Hold) (past : Numbers) → Each P past → Each P (held_behind hold past)
-  each-held hold past h =
-      subst (Each P) (sym (held-first hold past))
-      (each-take P (length (held_behind hold past)) (in_order past) (each-order past h))
-
-  pub each-handed : (hold : Hold) (past : Numbers) → Each P past → Each P (handed_on hold past)
+  pub each-handed : (most : ℕ) (past : Numbers) → Each P past → Each P (handed_on most past)
   unfolding handed_on
-  each-handed hold [] h = tt
-  each-handed hold (x ∷ past) h =
-      each-append P (hands_on hold x past) (handed_on hold past)
-      (by (is_arrival x.head) (length (held_behind hold (x ∷ past))) (each-held hold past h.1))
-      (each-handed hold past h.1)
+  each-handed most [] h = tt
+  each-handed most (x ∷ past) h =
+      each-append P (hands_on most x (in_order (x ∷ past))) (handed_on most past)
+      (by (is_arrival x.head) (in_order (x ∷ past)) (each-order (x ∷ past) h)) (each-handed most past h.1)
     where
-      by : (t : Bool) (n : ℕ) → Each P (held_behind hold past)
-          → Each P (if t then drop n (put_among x (held_behind hold past))
-          else drop n (held_behind hold past) ++ x ∷ [])
-      by true n held =
-          each-drop P n (put_among x (held_behind hold past)) (each-put x (held_behind hold past) h.0 held)
-      by false n held =
-          each-append P (drop n (held_behind hold past)) (x ∷ []) (each-drop P n (held_behind hold past) held) (h.0, tt)
+      by : (t : Bool) (ordered : Numbers) → Each P ordered → Each P (if t then take 1 (drop most ordered) else x ∷ [])
+      by true ordered all = each-take P 1 (drop most ordered) (each-drop P most ordered all)
+      by false ordered all = (h.0, tt)
 
-  pub each-all : (hold : Hold) (past : Numbers) → Each P past → Each P (all_handed hold past)
-  each-all hold past h =
-      each-append P (held_behind hold past) (handed_on hold past) (each-held hold past h) (each-handed hold past h)
+  pub each-held : (most : ℕ) (past : Numbers) → Each P past → Each P (take most (in_order past))
+  each-held most past h = each-take P most (in_order past) (each-order past h)
+
+  pub each-all : (most : ℕ) (past : Numbers) → Each P past → Each P (all_handed most past)
+  each-all most past h =
+      each-append P (take most (in_order past)) (handed_on most past) (each-held most past h) (each-handed most past h)
 
   -- ---- of two recordings as one
 

@@ -1,6 +1,6 @@
 -- Where the arrivals of recordings came in: at ports that the options say, or the bytes of frames do.
 use Rattle.std.specs.Option.{option_or}
-use Rattle.std.proofs.Common.{◌≡◌, ◌+◌, ℕ, List, [], ◌∷◌, ◌++◌, length, take, refl, ap, sym, ◌∙◌, subst}
+use Rattle.std.proofs.Common.{◌≡◌, ◌+◌, ℕ, List, [], ◌∷◌, ◌++◌, length, take, drop, refl, ap, sym, ◌∙◌, subst}
 use Rattle.std.proofs.Common.{◌⊎◌, inl, inr, Bool, true, false, not, Option, Some, None, Result, Ok, Err}
 use Rattle.afdx_frame.specs.declared.by_side.BySide.{BySide}
 use Rattle.afdx_frame.specs.declared.link.Side.{Side}
@@ -39,14 +39,14 @@ use Rattle.afdx_input_sources.specs.Becoming.{Options, becomes, check, ends_with
 use Rattle.afdx_input_sources.specs.Becoming.{found_with, frame_becomes, is_before, is_claimed, is_contradicted}
 use Rattle.afdx_input_sources.specs.Becoming.{is_from_start, is_taken, kind_used}
 use Rattle.afdx_input_sources.specs.Becoming.{kind_with, line_time, moment_by, options_of, or_else, side_said, whole_moment}
-use Rattle.afdx_input_sources.specs.Becoming.{◌>>=◌, ◌>>◌, only_if, stamp_in}
+use Rattle.afdx_input_sources.specs.Becoming.{◌>>=◌, ◌>>◌, only_if}
 use Rattle.afdx_input_sources.specs.Claims.{Agree, Ports, ports_of, side_claimed}
 use Rattle.afdx_input_sources.specs.Entering.{IsEntry}
 use Rattle.afdx_input_sources.specs.Laws.{EntriesAgree, GivenAreEntered, GivenOfPairAreEntered}
 use Rattle.afdx_input_sources.specs.NumberLines.{Lines, NumberFollows, arrivals_listed, as_arrival, number_order}
 use Rattle.afdx_input_sources.specs.OrderedRecording.{HasTaken, HasTakenAll, OrderedRecording, number_taken}
 use Rattle.afdx_input_sources.specs.OrderedSource.{AreLeft, StopsAt}
-use Rattle.afdx_input_sources.specs.Ordering.{in_order}
+use Rattle.afdx_input_sources.specs.Ordering.{handed_on, in_order}
 use Rattle.afdx_input_sources.specs.MergedSource.{IsAheadBy, OfTwo, items_of, taken_of}
 use Rattle.afdx_input_sources.specs.TimedPairSource.{IsPaired}
 use Rattle.afdx_input_sources.specs.declared.merged.Nth.TheVariants.{First, Second}
@@ -56,7 +56,7 @@ use Rattle.afdx_input_sources.specs.Sequences.{Numbers, Outcome, and_then, as_re
 use Rattle.afdx_input_sources.specs.Sequences.{numbers_read, read_of_items, with_number}
 use Rattle.afdx_input_sources.specs.Taking.{late_of_both, late_of_one}
 use Rattle.afdx_input_sources.specs.Timing.{Timed, line_by, origin_in, timed}
-use Rattle.afdx_input_sources.proofs.EachLemmas.{Each, each-all, each-behind, each-handed}
+use Rattle.afdx_input_sources.proofs.EachLemmas.{Each, each-all, each-append, each-behind, each-drop, each-handed, each-held}
 use Rattle.afdx_input_sources.proofs.EachLemmas.{each-both, each-more}
 use Rattle.afdx_input_sources.proofs.SequenceLemmas.{sorts-first}
 use Rattle.afdx_input_sources.proofs.TimingLemmas.{timed-before}
@@ -108,13 +108,13 @@ module _ (options : Options) (ports : Ports) where
       → IsEntry options ports entrance.entry → (moment : Result ℕ NoArrival) (kind : Result FrameKind NoArrival)
       → IfGood HasEntry (moment >>= (λ moment.
       check (not (is_before options.origin moment)) (no.Skipped why.BeforeOrigin)
-      >> (kind >>= (λ kind. Ok (found_with options.is_second stamp moment entrance (kind_used kind bytes))))))
+      >> (kind >>= (λ kind. Ok (found_with options.is_second moment entrance (kind_used kind bytes))))))
   behind-entered n frame bytes stamp entrance h (Err reason) kind = tt
   behind-entered n frame bytes stamp entrance h (Ok moment) kind = by (not (is_before options.origin moment)) kind
     where
       by : (early : Bool) (kind : Result FrameKind NoArrival)
           → IfGood HasEntry (check early (no.Skipped why.BeforeOrigin)
-          >> (kind >>= (λ kind. Ok (found_with options.is_second stamp moment entrance (kind_used kind bytes)))))
+          >> (kind >>= (λ kind. Ok (found_with options.is_second moment entrance (kind_used kind bytes)))))
       by false kind = tt
       by true (Err reason) = tt
       by true (Ok kind) = h
@@ -137,7 +137,7 @@ module _ (options : Options) (ports : Ports) where
           >>= (λ moment. check (not (is_before options.origin moment)) (no.Skipped why.BeforeOrigin)
           >> (or_else (kind_with (ends_with_sequence options.fcs frame.check_sequence) frame.found_wrong bytes)
           (no.Faulted (fault.FcsUnclear n)) >>= (λ kind.
-          Ok (found_with options.is_second stamp moment entrance (kind_used kind bytes)))))))))
+          Ok (found_with options.is_second moment entrance (kind_used kind bytes)))))))))
       by false stamp entrance h = tt
       by true (Err reason) entrance h = tt
       by true (Ok stamp) (Err reason) h = tt
@@ -166,15 +166,15 @@ module _ (options : Options) (ports : Ports) where
   IfRead (Ok number) = IsIn number
   IfRead (Err fault) = Unit {0}
 
-  by-entered : (stamp : Option ℕ) (r : Result FoundFrame NoArrival) → IfGood HasEntry r → IfRead (number_by stamp r)
-  by-entered stamp (Ok found) h = h
-  by-entered stamp (Err (no.Skipped reason)) h = tt
-  by-entered stamp (Err (no.Faulted fault)) h = tt
+  by-entered : (r : Result FoundFrame NoArrival) → IfGood HasEntry r → IfRead (number_by r)
+  by-entered (Ok found) h = h
+  by-entered (Err (no.Skipped reason)) h = tt
+  by-entered (Err (no.Faulted fault)) h = tt
 
   number-entered : (past : Numbers) (item : Numbered) → IfRead (number_after options ports past item)
   unfolding number_after
   number-entered past item =
-      by-entered (stamp_in item.what) (becomes options ports (length past + 1) item.what item.bytes)
+      by-entered (becomes options ports (length past + 1) item.what item.bytes)
       (becomes-entered (length past + 1) item.what item.bytes)
 
   next-entered : (next : Number → Outcome) (past : Numbers) (totals : Totals) (r : Result Number RecordingFault)
@@ -231,14 +231,18 @@ module _ {R : Type 0} (remaining : R → Option (List ℕ)) (start input : Watch
       part-of (reading.recorded (h.stops.read ++ [])) [] past (h.stops.numbers [] (λ ended. refl))
 
   -- and in order
-  left-entered : (read : List (Item AsRead)) (past : Numbers) → AreLeft source.hold read source.held past
+  left-entered : (read : List (Item AsRead)) (past : Numbers) → AreLeft source.most read source.held past
       → Each IsInOf (numbers_read read) → Each IsInOf past
   left-entered read past l h =
-      each-behind IsInOf (take l.most (in_order (numbers_read read))) past
-      (subst (Each IsInOf) (sym l.handed) (each-all IsInOf source.hold (numbers_read read) h))
+      subst (Each IsInOf) (sym l.handed)
+      (each-append IsInOf (drop l.left (take source.most (in_order (numbers_read read))))
+      (handed_on source.most (numbers_read read))
+      (each-drop IsInOf l.left (take source.most (in_order (numbers_read read)))
+      (each-held IsInOf source.most (numbers_read read) h))
+      (each-handed IsInOf source.most (numbers_read read) h))
 
   at-entered : (read : List (Item AsRead)) (fault : RecordingFault)
-      → StopsAt (HasRead remaining) (HasReadAll remaining) (HasStoppedReading remaining) source.hold start
+      → StopsAt (HasRead remaining) (HasReadAll remaining) (HasStoppedReading remaining) source.most start
       source.source
       input read fault → Each IsInOf (numbers_read read)
   at-entered read fault (inl s) = stopped-read (numbers_read read) fault s
@@ -250,9 +254,8 @@ module _ {R : Type 0} (remaining : R → Option (List ℕ)) (start input : Watch
       by : (s : Stage) → source.stage ≡ s → Each IsInOf past
       by stage.Reading e =
           let k = rw e at h.stands in
-          each-behind IsInOf k.1.due past
-          (subst (Each IsInOf) (sym k.1.handed)
-          (each-handed IsInOf source.hold (numbers_read h.read) (given-read (numbers_read h.read) k.0)))
+          subst (Each IsInOf) (sym k.1.handed)
+          (each-handed IsInOf source.most (numbers_read h.read) (given-read (numbers_read h.read) k.0))
       by stage.Over e =
           let k = rw e at h.stands in left-entered h.read past k.1 (ended-read (numbers_read h.read) k.0)
       by (stage.Stopped fault) e =
@@ -261,7 +264,7 @@ module _ {R : Type 0} (remaining : R → Option (List ℕ)) (start input : Watch
   all-entered : (past : Numbers) → HasTakenAll remaining start source input past → Each IsInOf past
   all-entered past h =
       subst (Each IsInOf) (sym h.all)
-      (each-all IsInOf source.hold (numbers_read h.read) (ended-read (numbers_read h.read) h.ended_so))
+      (each-all IsInOf source.most (numbers_read h.read) (ended-read (numbers_read h.read) h.ended_so))
 
   -- those that were taken of it, whatever stands at its head
   ahead-entered : (head : AtHead) (taken : Numbers)

@@ -1,13 +1,10 @@
 -- Arrivals that are held: those in the queue rise, and the one that is taken comes first.
-use Rattle.std.proofs.Common.{◌≡◌, ◌≤◌, ◌<◌, ℕ, List, [], ◌∷◌, ◌++◌, get_or, length, sym}
-use Rattle.std.proofs.Common.{subst, arith, Option, Some, None, false, IfSome, Bor, append_assoc}
-use Rattle.std.specs.Prelude.{slice_index_or}
-use Rattle.std.specs.Slice.{IsItemAt}
+use Rattle.std.proofs.Common.{◌≡◌, ◌≤◌, ℕ, List, [], ◌∷◌, ◌++◌, get_or, sym}
+use Rattle.std.proofs.Common.{subst, arith, Option, Some, None, false, IfSome, append_assoc}
 use Rattle.std.proofs.lemmas.Bool.Decides.{nat_tests}
 use Rattle.std.proofs.lemmas.List.Elements.{All-append, All-from_recursion, All-head, All-nil, All-push}
 use Rattle.std.proofs.lemmas.List.Elements.{All-tail, All-weaker}
-use Rattle.std.proofs.lemmas.List.Sorted.{IsPermutation-append_right, IsPermutation-middle, IsPermutation-refl}
-use Rattle.std.proofs.lemmas.List.Sorted.{IsPermutation-sym}
+use Rattle.std.proofs.lemmas.List.Sorted.{IsPermutation-append_right, IsPermutation-middle, IsPermutation-sym}
 use Rattle.std.proofs.lemmas.List.Sorted.{IsPermutation-trans, length_permutation}
 use Rattle.std.specs.BinaryHeap.{IsHeap, IsUpperBound}
 use Rattle.std.specs.List.{All}
@@ -16,7 +13,7 @@ use Rattle.std.specs.Option.{option_to_list}
 use Rattle.std.specs.Ordering.{is_lt, nat_cmp}
 use Rattle.afdx_input_sources.specs.Engine.{Item}
 use Rattle.afdx_input_sources.specs.declared.number.Number.{Number}
-use Rattle.afdx_input_sources.specs.Holding.{AreRising, ComesFirst, IsFirst, Leads, by_rank, rank}
+use Rattle.afdx_input_sources.specs.Holding.{AreRising, ComesFirst, Leads, by_rank, rank}
 
 -- ---- the queue
 
@@ -94,41 +91,3 @@ queued-first queue late rest (Some x) leads rising is =
     let leads' : Leads (x ∷ rest) late = subst (λ (xs : List (Item Number)). Leads xs late) is leads in
     let rising' : AreRising (x ∷ rest) = subst (λ (xs : List (Item Number)). AreRising xs) is rising in
     All-append (λ z. rank x ≤ rank z) rest late rising'.0 leads'
-
--- ---- the first is looked at
-
-late-top : (queue late : List (Item Number)) (x : Item Number) → Leads late queue → x ≡ slice_index_or late 0 x
-    → 0 < length late → IsUpperBound by_rank x late → IsFirst x (queue ++ late)
-late-top queue [] x leads top some below = absurd (omega (arith, some))
-late-top queue (y ∷ late) x leads top some below =
-    let first : ComesFirst x (y ∷ late) = top-first x (y ∷ late) below in record {
-      others = queue ++ late;
-      are_held = subst (λ (z : Item Number). IsPermutation (queue ++ y ∷ late) (z ∷ (queue ++ late))) (sym top)
-          (IsPermutation-middle queue y late);
-      comes = All-append (λ z. rank x ≤ rank z) queue late
-          (subst (λ (z : Item Number). ComesFirst z queue) (sym top) leads)
-          (All-tail (λ z. rank x ≤ rank z) y late first);
-    }
-
-queue-top : (queue late : List (Item Number)) (x : Item Number) → Leads queue late → AreRising queue
-    → x ≡ slice_index_or queue 0 x → 0 < length queue → IsFirst x (queue ++ late)
-queue-top [] late x leads rising top some = absurd (omega (arith, some))
-queue-top (y ∷ queue) late x leads rising top some = record {
-  others = queue ++ late;
-  are_held = subst (λ (z : Item Number). IsPermutation (y ∷ (queue ++ late)) (z ∷ (queue ++ late))) (sym top)
-      (IsPermutation-refl (y ∷ (queue ++ late)));
-  comes = subst (λ (z : Item Number). ComesFirst z (queue ++ late)) (sym top)
-      (All-append (λ z. rank y ≤ rank z) queue late rising.0 leads);
-}
-
-pub late-seen : (queue late : List (Item Number)) (seen : Option (Bor (Item Number))) → Leads late queue
-    → IsHeap by_rank late → IsItemAt late 0 seen
-    → IfSome seen (λ x. IsHeap by_rank late → IsUpperBound by_rank x.now late)
-    → IfSome seen (λ x. IsFirst x.now (queue ++ late))
-late-seen queue late None leads heap top below = tt
-late-seen queue late (Some x) leads heap top below = late-top queue late x.now leads top.1 top.3.0 (below heap)
-
-pub queue-seen : (queue late : List (Item Number)) (seen : Option (Bor (Item Number))) → Leads queue late
-    → AreRising queue → IsItemAt queue 0 seen → IfSome seen (λ x. IsFirst x.now (queue ++ late))
-queue-seen queue late None leads rising top = tt
-queue-seen queue late (Some x) leads rising top = queue-top queue late x.now leads rising top.1 top.3.0

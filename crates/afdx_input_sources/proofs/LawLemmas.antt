@@ -31,14 +31,14 @@ use Rattle.afdx_input_sources.specs.declared.number.Number.{Number}
 use Rattle.afdx_input_sources.specs.declared.places.TapPoint.{TapPoint}
 use Rattle.afdx_input_sources.specs.Becoming.{Options, becomes, frame_becomes, entrance_of, without_own}
 use Rattle.afdx_input_sources.specs.Becoming.{seal_by, check, ends_with_sequence, found_with, is_before}
-use Rattle.afdx_input_sources.specs.Becoming.{is_from_start, kind_used, kind_with, stamp_in}
+use Rattle.afdx_input_sources.specs.Becoming.{is_from_start, kind_used, kind_with}
 use Rattle.afdx_input_sources.specs.Becoming.{line_time, moment_by, or_else, whole_moment, ◌>>=◌, ◌>>◌}
 use Rattle.afdx_input_sources.specs.Places.{is_left_out}
 use Rattle.afdx_input_sources.specs.Claims.{Ports, Agree}
 use Rattle.afdx_input_sources.specs.Laws.{SequencesAgree, ArrivalsHaveTheirBytes, ArrivalsAreInOrder}
 use Rattle.afdx_input_sources.specs.Laws.{ArrivalsAreTakenInOrder, ArrivalsOfBothAreInOrder, AreInOrder}
 use Rattle.afdx_input_sources.specs.NumberLines.{Lines, arrivals_listed}
-use Rattle.afdx_input_sources.specs.Ordering.{forward, handed_on, held_behind, ordered, sequence}
+use Rattle.afdx_input_sources.specs.Ordering.{forward, handed_on, in_order, ordered, sequence}
 use Rattle.afdx_input_sources.specs.Sequences.{Outcome, Numbers, as_read, read_of_items, number_after, number_by}
 use Rattle.afdx_input_sources.specs.Sequences.{and_then, with_number}
 use Rattle.afdx_input_sources.specs.Taking.{AreCutOff, AreCutOffAtOne, arrivals_in, both_numbers, fault_of, late_of_one, late_of_both}
@@ -68,7 +68,7 @@ module _ (options : Options) (p q : Ports) (a : Agree p q) where
       >>= (λ moment. check (not (is_before options.origin moment)) (no.Skipped why.BeforeOrigin)
       >> (or_else (kind_with (ends_with_sequence options.fcs frame.check_sequence) frame.found_wrong bytes)
       (no.Faulted (fault.FcsUnclear n)) >>= (λ kind.
-      Ok (found_with options.is_second stamp moment entrance (kind_used kind bytes)))))
+      Ok (found_with options.is_second moment entrance (kind_used kind bytes)))))
 
   same-behind : (n : ℕ) (frame : RecordedFrame) (bytes : List ℕ) (stamp : ℕ) (entrance : Entrance)
       → behind p n frame bytes stamp entrance ≡ behind q n frame bytes stamp entrance
@@ -97,7 +97,7 @@ module _ (options : Options) (p q : Ports) (a : Agree p q) where
       → number_after options p past item ≡ number_after options q past item
   unfolding number_after
   same-after past item =
-      ap (λ (r : Result FoundFrame NoArrival). number_by (stamp_in item.what) r)
+      ap (λ (r : Result FoundFrame NoArrival). number_by r)
       (same-number (length past + 1) item.what item.bytes)
 
   same-next : (f g : Number → Outcome) (past : Numbers) (totals : Totals) (r : Result Number RecordingFault)
@@ -121,7 +121,7 @@ module _ (options : Options) (p q : Ports) (a : Agree p q) where
 
 pub sequences-agree : SequencesAgree
 sequences-agree options p q recording a =
-    ap (λ (o : Outcome). ordered options.hold options.place o)
+    ap (λ (o : Outcome). ordered options.reorder options.place o)
     (same-items options p q a recording.ending recording.totals [] recording.items)
 
 -- ---- the bytes of an arrival
@@ -156,20 +156,20 @@ have-their-bytes Bad bytes = refl
 pub taken-in-order : ArrivalsAreTakenInOrder
 taken-in-order options ports recording =
     let read = (as_read options ports recording).numbers in
-    arrivals-in-order options.hold (forward options.hold read).numbers (forward-fits options.hold read)
+    arrivals-in-order options.reorder (forward options.reorder read).numbers (forward-fits options.reorder read)
 
 sequence-ordered : (options : Options) (ports : Ports) (recording : Recording)
     → AreOrdered (sequence options ports recording).numbers
 sequence-ordered options ports recording =
-    let all = forward options.hold (as_read options ports recording).numbers in
-    handed-ordered options.hold all.numbers (forward-fits options.hold (as_read options ports recording).numbers)
+    let all = forward options.reorder (as_read options ports recording).numbers in
+    handed-ordered options.reorder all.numbers (forward-fits options.reorder (as_read options ports recording).numbers)
 
 -- those that are known come first
 known-ordered : (options : Options) (ports : Ports) (recording : Recording)
     → AreOrdered (sequence options ports recording).known
 known-ordered options ports recording =
-    let all = forward options.hold (as_read options ports recording).numbers in
-    ordered-behind (held_behind options.hold all.numbers) (handed_on options.hold all.numbers)
+    let all = forward options.reorder (as_read options ports recording).numbers in
+    ordered-behind (take options.reorder (in_order all.numbers)) (handed_on options.reorder all.numbers)
     (sequence-ordered options ports recording)
 
 pub are-in-order : ArrivalsAreInOrder

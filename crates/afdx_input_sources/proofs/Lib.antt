@@ -11,7 +11,6 @@ pub mod ArrivingLemmas
 pub mod ClockLemmas
 pub mod KnownLemmas
 pub mod SortingLemmas
-pub mod KeptLemmas
 pub mod HandingLemmas
 pub mod FallingLemmas
 pub mod HoldingLemmas
@@ -24,7 +23,6 @@ pub mod PairedLemmas
 pub mod MergedLemmas
 pub mod OrderLemmas
 pub mod LawLemmas
-pub mod AgreeLemmas
 mod PlacingLemmas
 mod OpenPortLemmas
 pub mod UnusedLemmas

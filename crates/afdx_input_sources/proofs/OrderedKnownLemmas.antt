@@ -13,7 +13,6 @@ use Rattle.afdx_input_lines.specs.declared.watched.Watched.{Watched}
 use Rattle.afdx_input_files.specs.Holding.{Standing, standing, GivesSome}
 use Rattle.afdx_input_files.specs.Recordings.{Faulted, Over, most_numbers}
 use Rattle.afdx_input_sources.specs.Engine.{Item}
-use Rattle.afdx_input_sources.specs.declared.hold.Hold.{Hold}
 use Rattle.afdx_input_sources.specs.declared.number.AsRead.{AsRead}
 use Rattle.afdx_input_sources.specs.declared.ordered.Stage.{Stage}
 use Rattle.afdx_input_sources.specs.declared.ordered.Stage.TheVariants as stage
@@ -29,6 +28,7 @@ use Rattle.afdx_input_sources.specs.RecordingSource.{HasStopped, HasRead, HasRea
 use Rattle.afdx_input_sources.specs.Sequences.{Numbers, Outcome, number_read, numbers_read}
 use Rattle.afdx_input_sources.specs.Taking.{sequence_of_bytes}
 use Rattle.afdx_input_sources.proofs.HandingLemmas.{known-first, forward-back}
+use Rattle.afdx_input_sources.proofs.OrderedLemmas.{left-behind}
 use Rattle.afdx_input_sources.proofs.KnownLemmas.{Read-of, read-first, read-all, read-fault, read-cut, read-memory}
 
 -- ---- whether its device failed, and how often it was asked
@@ -45,7 +45,7 @@ module _ {R : Type 0} (remaining : R → Option (List ℕ)) (start input : Watch
   IsSound = (input.failed ≡ false) × GivesSome First Now
 
   at-sound : (fault : RecordingFault) (read : List (Item AsRead))
-      → StopsAt (HasRead remaining) (HasReadAll remaining) (HasStoppedReading remaining) source.hold start source.source
+      → StopsAt (HasRead remaining) (HasReadAll remaining) (HasStoppedReading remaining) source.most start source.source
       input read fault → IsSound
   at-sound fault read (inl s) = (s.failed, s.gives)
   at-sound fault read (inr s) = (s.1.sound, (s.1.sorts.read, s.1.sorts.gives))
@@ -74,15 +74,15 @@ module _ {R : Type 0} (remaining : R → Option (List ℕ)) (start input : Watch
 -- ---- where all bytes of the input are known
 
 -- what is in order of numbers that were read
-sequence-is : (hold : Hold) (place : ℕ → Option TapPoint) (outcome : Outcome) (numbers : Numbers) (all : Forward)
-    → outcome.numbers ≡ numbers → forward hold numbers ≡ all
-    → ((ordered hold place outcome).numbers ≡ all_handed hold all.numbers)
-    × ((ordered hold place outcome).known ≡ handed_on hold all.numbers)
-    × ((ordered hold place outcome).ending ≡ ending_or all.back outcome.ending)
-sequence-is hold place outcome numbers all e f =
-    let is : forward hold outcome.numbers ≡ all = ap (forward hold) e ∙ f in (
-      ap (λ (a : Forward). all_handed hold a.numbers) is,
-      ap (λ (a : Forward). handed_on hold a.numbers) is,
+sequence-is : (most : ℕ) (place : ℕ → Option TapPoint) (outcome : Outcome) (numbers : Numbers) (all : Forward)
+    → outcome.numbers ≡ numbers → forward most numbers ≡ all
+    → ((ordered most place outcome).numbers ≡ all_handed most all.numbers)
+    × ((ordered most place outcome).known ≡ handed_on most all.numbers)
+    × ((ordered most place outcome).ending ≡ ending_or all.back outcome.ending)
+sequence-is most place outcome numbers all e f =
+    let is : forward most outcome.numbers ≡ all = ap (forward most) e ∙ f in (
+      ap (λ (a : Forward). all_handed most a.numbers) is,
+      ap (λ (a : Forward). handed_on most a.numbers) is,
       ap (λ (a : Forward). ending_or a.back outcome.ending) is,
     )
 
@@ -103,52 +103,52 @@ module _ {R : Type 0} (remaining : R → Option (List ℕ)) (start input : Watch
   place = place_of source.source.options.interfaces
 
   -- the sequence, by the order of the source
-  by-order : (b : List ℕ) (P : Sequence → Type 0) → P (ordered source.hold place (Raw-of b)) → P (Sequence-of b)
-  by-order b P h = subst (λ (hold : Hold). P (ordered hold place (Raw-of b))) set h
+  by-order : (b : List ℕ) (P : Sequence → Type 0) → P (ordered source.most place (Raw-of b)) → P (Sequence-of b)
+  by-order b P h = subst (λ (most : ℕ). P (ordered most place (Raw-of b))) set h
 
   parts : (b : List ℕ) (numbers : Numbers) (all : Forward) → (Raw-of b).numbers ≡ numbers
-      → forward source.hold numbers ≡ all
-      → ((Sequence-of b).numbers ≡ all_handed source.hold all.numbers)
-      × ((Sequence-of b).known ≡ handed_on source.hold all.numbers)
+      → forward source.most numbers ≡ all
+      → ((Sequence-of b).numbers ≡ all_handed source.most all.numbers)
+      × ((Sequence-of b).known ≡ handed_on source.most all.numbers)
       × ((Sequence-of b).ending ≡ ending_or all.back (Raw-of b).ending)
   parts b numbers all e f =
-      by-order b (λ (s : Sequence). (s.numbers ≡ all_handed source.hold all.numbers)
-      × (s.known ≡ handed_on source.hold all.numbers) × (s.ending ≡ ending_or all.back (Raw-of b).ending))
-      (sequence-is source.hold place (Raw-of b) numbers all e f)
+      by-order b (λ (s : Sequence). (s.numbers ≡ all_handed source.most all.numbers)
+      × (s.known ≡ handed_on source.most all.numbers) × (s.ending ≡ ending_or all.back (Raw-of b).ending))
+      (sequence-is source.most place (Raw-of b) numbers all e f)
 
   -- behind these numbers that were read come some, and these are known
-  known-is-first : (read : List (Item AsRead)) → AreForward source.hold read → (due : Numbers)
-      → due ++ past ≡ handed_on source.hold (numbers_read read)
+  known-is-first : (read : List (Item AsRead)) → AreForward source.most read
+      → past ≡ handed_on source.most (numbers_read read)
       → (later : Numbers) × ((Raw-of bytes).numbers ≡ later ++ numbers_read read) → AreItsFirst
-  known-is-first read f due e (later, is) =
-      let k = known-first source.hold (numbers_read read) f.forward_is later in
-      let p = parts bytes (later ++ numbers_read read) (forward source.hold (later ++ numbers_read read)) is refl in
-      (k.0 ++ due, p.0 ∙ k.1 ∙ ap (λ (xs : Numbers). k.0 ++ xs) (sym e) ∙ sym (append_assoc k.0 due past))
+  known-is-first read f e (later, is) =
+      let k = known-first source.most (numbers_read read) f.forward_is later in
+      let p = parts bytes (later ++ numbers_read read) (forward source.most (later ++ numbers_read read)) is refl in
+      (k.0, p.0 ∙ k.1 ∙ ap (λ (xs : Numbers). k.0 ++ xs) (sym e))
 
   -- these numbers were read and none goes back
-  all-parts : (b : List ℕ) (read : List (Item AsRead)) → AreForward source.hold read
+  all-parts : (b : List ℕ) (read : List (Item AsRead)) → AreForward source.most read
       → (Raw-of b).numbers ≡ numbers_read read
-      → ((Sequence-of b).numbers ≡ all_handed source.hold (numbers_read read))
-      × ((Sequence-of b).known ≡ handed_on source.hold (numbers_read read))
+      → ((Sequence-of b).numbers ≡ all_handed source.most (numbers_read read))
+      × ((Sequence-of b).known ≡ handed_on source.most (numbers_read read))
       × ((Sequence-of b).ending ≡ (Raw-of b).ending)
   all-parts b read f e = parts b (numbers_read read) _ e f.forward_is
 
   -- behind them one goes back
-  back-parts : (read : List (Item AsRead)) (x : Item AsRead) → AreForward source.hold read
-      → goes_back source.hold (number_read x) (numbers_read read) ≡ true
+  back-parts : (read : List (Item AsRead)) (x : Item AsRead) → AreForward source.most read
+      → goes_back source.most (number_read x) (numbers_read read) ≡ true
       → HasRead remaining start source.source input (x ∷ read)
-      → ((Sequence-of bytes).numbers ≡ all_handed source.hold (numbers_read read))
-      × ((Sequence-of bytes).known ≡ handed_on source.hold (numbers_read read))
+      → ((Sequence-of bytes).numbers ≡ all_handed source.most (numbers_read read))
+      × ((Sequence-of bytes).known ≡ handed_on source.most (numbers_read read))
       × ((Sequence-of bytes).ending ≡ Faulted (TimeBack x.number))
   back-parts read x f back g =
       let k = read-first remaining start input source.source (numbers_read (x ∷ read)) bytes known g in
       parts bytes (k.0 ++ numbers_read (x ∷ read)) _ k.1
-      (forward-back source.hold (number_read x) (numbers_read read) f.forward_is back k.0)
+      (forward-back source.most (number_read x) (numbers_read read) f.forward_is back k.0)
 
-  at-parts : (read : List (Item AsRead)) (fault : RecordingFault) → AreForward source.hold read
-      → StopsAt (HasRead remaining) (HasReadAll remaining) (HasStoppedReading remaining) source.hold start source.source
+  at-parts : (read : List (Item AsRead)) (fault : RecordingFault) → AreForward source.most read
+      → StopsAt (HasRead remaining) (HasReadAll remaining) (HasStoppedReading remaining) source.most start source.source
       input read fault
-      → ((Sequence-of bytes).numbers ≡ all_handed source.hold (numbers_read read))
+      → ((Sequence-of bytes).numbers ≡ all_handed source.most (numbers_read read))
       × ((Sequence-of bytes).ending ≡ Faulted fault)
   at-parts read fault f (inl s) =
       let k = read-fault remaining start input source.source (numbers_read read) bytes known fault s in
@@ -156,10 +156,11 @@ module _ {R : Type 0} (remaining : R → Option (List ℕ)) (start input : Watch
   at-parts read fault f (inr (x, g, back, is)) =
       let p = back-parts read x f back g in (p.0, p.2 ∙ ap Faulted (sym is))
 
-  left-first : (read : List (Item AsRead)) → AreLeft source.hold read source.held past
-      → (Sequence-of bytes).numbers ≡ all_handed source.hold (numbers_read read) → AreItsFirst
+  left-first : (read : List (Item AsRead)) → AreLeft source.most read source.held past
+      → (Sequence-of bytes).numbers ≡ all_handed source.most (numbers_read read) → AreItsFirst
   left-first read l is =
-      (take l.most (in_order (numbers_read read)), is ∙ sym l.handed)
+      let t = take source.most (in_order (numbers_read read)) in
+      (take l.left t, is ∙ sym (left-behind source.most l.left (numbers_read read) past l.handed))
 
   pub given-first : HasTaken remaining start source input past → AreItsFirst
   given-first h = by source.stage refl
@@ -167,7 +168,7 @@ module _ {R : Type 0} (remaining : R → Option (List ℕ)) (start input : Watch
       by : (s : Stage) → source.stage ≡ s → AreItsFirst
       by stage.Reading e =
           let k = rw e at h.stands in
-          known-is-first h.read h.are_forward k.1.due k.1.handed
+          known-is-first h.read h.are_forward k.1.handed
           (read-first remaining start input source.source (numbers_read h.read) bytes known k.0)
       by stage.Over e =
           let k = rw e at h.stands in
@@ -236,11 +237,11 @@ module _ {R : Type 0} (remaining : R → Option (List ℕ)) (start input : Watch
   pub stopped-memory : HasStoppedTaking remaining start source input past run.Memory → AreItsFirst
   stopped-memory (inl s) = absurd (let e = s.fault_is in cc)
   stopped-memory (inr (inl s)) =
-      known-is-first s.read s.are_forward [] s.known
+      known-is-first s.read s.are_forward s.known
       (read-memory remaining start input source.source (numbers_read s.read) bytes known s.stopped_so)
   stopped-memory (inr (inr s)) =
       let k = read-first remaining start input source.source (numbers_read (s.x ∷ s.read)) bytes known s.gave_them in
-      known-is-first s.read s.are_forward [] s.known (
+      known-is-first s.read s.are_forward s.known (
         k.0 ++ number_read s.x ∷ [],
         k.1 ∙ sym (append_assoc k.0 (number_read s.x ∷ []) (numbers_read s.read)),
       )

@@ -1,28 +1,24 @@
 -- A source of numbers in order: one step more.
-use Rattle.std.proofs.Common.{◌≡◌, ℕ, suc, zero, List, [], ◌∷◌, ◌++◌, append_assoc, length, length-append, take, drop}
-use Rattle.std.proofs.Common.{refl, ap, sym, ◌∙◌, subst, Bool, true, false, inl, inr, arith, length-take, max}
+use Rattle.std.proofs.Common.{◌≡◌, ◌≤◌, ◌<◌, ℕ, suc, zero, List, [], ◌∷◌, ◌++◌, append_assoc, length, length-append, take, drop}
+use Rattle.std.proofs.Common.{refl, ap, sym, ◌∙◌, subst, nat_lt, Bool, true, false, arith}
 use Rattle.std.proofs.Math.Seq.{take-append_seam}
-use Rattle.std.proofs.lemmas.List.{append-nil, nil_from_length}
+use Rattle.std.proofs.lemmas.List.{take-append-drop}
 use Rattle.std.proofs.lemmas.List.Sorted.{IsPermutation-sym, IsPermutation-trans}
 use Rattle.std.specs.List.Sorted.{IsPermutation}
 use Rattle.afdx_input_sources.specs.Engine.{Item}
-use Rattle.afdx_input_sources.specs.declared.hold.Hold.{Hold}
-use Rattle.afdx_input_sources.specs.declared.hold.Hold.TheVariants.{Within, Live}
 use Rattle.afdx_input_sources.specs.declared.number.AsRead.{AsRead}
 use Rattle.afdx_input_sources.specs.declared.number.Number.{Number}
 use Rattle.afdx_input_sources.specs.Holding.{ComesFirst}
 use Rattle.afdx_input_sources.specs.NumberLines.{NumberFollows, ReadFollows}
 use Rattle.afdx_input_sources.specs.OrderedSource.{AreForward, AreHeld, AreLeft}
-use Rattle.afdx_input_sources.specs.OrderedSteps.{IsDue, IsNoneDue, is_late_by}
-use Rattle.afdx_input_sources.specs.Ordering.{all_handed, goes_back, handed_on, held_behind, held_of, in_order, is_reached, moment_of}
-use Rattle.afdx_input_sources.specs.Ordering.{newest_stamp, put_among, stamp_of, unreached}
+use Rattle.afdx_input_sources.specs.Ordering.{all_handed, goes_back, handed_on, in_order, moment_of, put_among}
 use Rattle.afdx_input_sources.specs.Sequences.{Numbers, is_arrival, latest_of, moment_or, number_read, numbers_read}
-use Rattle.afdx_input_sources.proofs.FallingLemmas.{falling-take, first-is-last, left-handed, order-falls}
+use Rattle.afdx_input_sources.proofs.FallingLemmas.{IsFalling, falling-take, first-is-last, left-handed, order-falls}
 use Rattle.afdx_input_sources.proofs.FallingLemmas.{permutes-length, permutes-none, put-permutes}
-use Rattle.afdx_input_sources.proofs.HandingLemmas.{AreOrdered, all-few, arrival-handed, arrival-parts, back-is, fits-more}
-use Rattle.afdx_input_sources.proofs.HandingLemmas.{handed-ordered, ordered-behind, put-held, skipped-handed}
-use Rattle.afdx_input_sources.proofs.HandingLemmas.{skipped-order, skipped-parts}
-use Rattle.afdx_input_sources.proofs.KeptLemmas.{last-unreached, no-more, none-behind}
+use Rattle.afdx_input_sources.proofs.HandingLemmas.{AreOrdered, all-few, arrival-order, back-is, few-later, fits-more}
+use Rattle.afdx_input_sources.proofs.HandingLemmas.{handed-ordered, held-full, held-more, ordered-behind, skipped-handed}
+use Rattle.afdx_input_sources.proofs.HandingLemmas.{skipped-order}
+use Rattle.afdx_input_sources.proofs.SortingLemmas.{put-split}
 use Rattle.afdx_input_sources.proofs.SortingLemmas as sorting
 use Rattle.std.proofs.lemmas.List.{length-map}
 
@@ -32,37 +28,52 @@ pub latest-next : (x : Item Number) (past : Numbers) → latest_of (x ∷ past) 
 unfolding latest_of
 latest-next x past = refl
 
-pub newest-next : (x : Item Number) (past : Numbers) (newest : ℕ) → newest ≡ newest_stamp past
-    → max newest (stamp_of x.head) ≡ newest_stamp (x ∷ past)
-unfolding newest_stamp
-newest-next x past newest e = ap (λ (n : ℕ). max n (stamp_of x.head)) e
-
 -- ---- lists
 
--- the last of two lists is that of the second
-pub split-last : {Y : Type 0} (xs ys front : List Y) (y : Y) → (ys ≡ [] → ⊥) → xs ++ ys ≡ front ++ y ∷ []
-    → (zs : List Y) × (front ≡ xs ++ zs) × (ys ≡ zs ++ y ∷ [])
-split-last [] ys front y some e = (front, refl, e)
-split-last (x ∷ xs) [] [] y some e = absurd (some refl)
-split-last (x ∷ xs) (z ∷ ys) [] y some e = absurd (more xs z ys (let h : xs ++ z ∷ ys ≡ [] = cc in h))
-  where
-    more : {Y : Type 0} (xs : List Y) (z : Y) (ys : List Y) → xs ++ z ∷ ys ≡ [] → ⊥
-    more [] z ys e = absurd (cc)
-    more (x ∷ xs) z ys e = absurd (cc)
-split-last {Y} (x ∷ xs) ys (w ∷ front) y some e =
-    let h : x ≡ w = cc in
-    let t : xs ++ ys ≡ front ++ y ∷ [] = cc in
-    let k = split-last xs ys front y some t in
-    (k.0, sym (ap (λ (z : Y). z ∷ front) h) ∙ ap (λ (l : List Y). x ∷ l) k.1, k.2)
+take-twice : {X : Type 0} (n : ℕ) (xs : List X) → take n (take n xs) ≡ take n xs
+take-twice zero xs = refl
+take-twice (suc n) [] = refl
+take-twice (suc n) (x ∷ xs) = ap (λ ys. x ∷ ys) (take-twice n xs)
+
+drop-taken : {X : Type 0} (n : ℕ) (xs : List X) → drop n (take n xs) ≡ []
+drop-taken zero xs = refl
+drop-taken (suc n) [] = refl
+drop-taken (suc n) (x ∷ xs) = drop-taken n xs
+
+-- two lists are the same, and so are their last things
+pub record AreSameEnds {X : Type 0} (xs ys : List X) (x y : X) : Type 0 where
+  pub front : xs ≡ ys
+  pub last : x ≡ y
+
+same-ends : {X : Type 0} (xs ys : List X) (x y : X) → xs ++ x ∷ [] ≡ ys ++ y ∷ [] → AreSameEnds xs ys x y
+same-ends [] [] x y e = record { front = refl; last = cc }
+same-ends [] (b ∷ []) x y e = absurd (cc)
+same-ends [] (b ∷ c ∷ ys) x y e = absurd (cc)
+same-ends (a ∷ []) [] x y e = absurd (cc)
+same-ends (a ∷ c ∷ xs) [] x y e = absurd (cc)
+same-ends (a ∷ xs) (b ∷ ys) x y e =
+    let h : a ≡ b = cc in
+    let t : xs ++ x ∷ [] ≡ ys ++ y ∷ [] = cc in
+    let k = same-ends xs ys x y t in record { front = rw (h, k.front) refl; last = k.last }
+
+-- what is still to be given comes behind what was
+pub left-behind : (most left : ℕ) (numbers past : Numbers)
+    → past ≡ drop left (take most (in_order numbers)) ++ handed_on most numbers
+    → take left (take most (in_order numbers)) ++ past ≡ all_handed most numbers
+left-behind most left numbers past e =
+    let t = take most (in_order numbers) in
+    ap (λ (xs : Numbers). take left t ++ xs) e
+    ∙ sym (append_assoc (take left t) (drop left t) (handed_on most numbers))
+    ∙ ap (λ (xs : Numbers). xs ++ handed_on most numbers) (take-append-drop left t)
 
 -- ---- what may come
 
 -- a number that is handed on may come behind those before it
-pub follows-handed : (hold : Hold) (read : List (Item AsRead)) → AreForward hold read → (later past : Numbers)
-    (y : Item Number) → later ++ y ∷ past ≡ all_handed hold (numbers_read read) → NumberFollows past y
-follows-handed hold read f later past y e =
-    let o = handed-ordered hold (numbers_read read) f.forward_is in
-    let few = all-few hold (numbers_read read) in
+pub follows-handed : (most : ℕ) (read : List (Item AsRead)) → AreForward most read → (later past : Numbers)
+    (y : Item Number) → later ++ y ∷ past ≡ all_handed most (numbers_read read) → NumberFollows past y
+follows-handed most read f later past y e =
+    let o = handed-ordered most (numbers_read read) f.forward_is in
+    let few = all-few most (numbers_read read) in
     let n = length-map read number_read in
     let m = ap (λ (xs : Numbers). length xs) e in
     let l = length-append later (y ∷ past) in record {
@@ -70,18 +81,9 @@ follows-handed hold read f later past y e =
       few = omega (arith, few, n, m, l, f.few);
     }
 
--- so may one that is given while some are still held
-pub follows-held : (hold : Hold) (read : List (Item AsRead)) → AreForward hold read → (held : List (Item Number))
-    (past : Numbers) (y : Item Number) → AreHeld hold read held (y ∷ past) → NumberFollows past y
-follows-held hold read f held past y h =
-    let nums = numbers_read read in
-    follows-handed hold read f (held_behind hold nums ++ h.due) past y
-    (append_assoc (held_behind hold nums) h.due (y ∷ past)
-    ∙ ap (λ (xs : Numbers). held_behind hold nums ++ xs) h.handed)
-
 -- ---- one number more
 
-module _ (hold : Hold) (read : List (Item AsRead)) (x : Item AsRead) (f : AreForward hold read)
+module _ (most : ℕ) (read : List (Item AsRead)) (x : Item AsRead) (f : AreForward most read)
     (follows : ReadFollows read x) where
   abbrev Nums : Numbers
   Nums = numbers_read read
@@ -89,210 +91,140 @@ module _ (hold : Hold) (read : List (Item AsRead)) (x : Item AsRead) (f : AreFor
   abbrev X : Item Number
   X = number_read x
 
-  abbrev WasHeld : Numbers
-  WasHeld = held_behind hold Nums
+  abbrev HeldArrivals : Numbers
+  HeldArrivals = take most (in_order Nums)
 
-  -- how many are held with it
-  abbrev Count : ℕ
-  Count = length (held_behind hold (X ∷ Nums))
-
-  pub more-forward : goes_back hold X Nums ≡ false → AreForward hold (x ∷ read)
+  pub more-forward : goes_back most X Nums ≡ false → AreForward most (x ∷ read)
   more-forward e = record {
     numbered = (follows.number, f.numbered);
     few = omega (arith, follows.few);
-    forward_is = fits-more hold X Nums f.forward_is e;
+    forward_is = fits-more most X Nums f.forward_is e;
   }
 
-  pub skipped-forward : is_arrival x.head.becomes ≡ false → goes_back hold X Nums ≡ false
+  pub skipped-forward : is_arrival x.head.becomes ≡ false → goes_back most X Nums ≡ false
   skipped-forward e = rw e refl
 
   -- whether it goes back too far
-  pub back-told : (latest newest : ℕ) (past : Numbers) (b : Bool) → is_arrival x.head.becomes ≡ true
-      → latest ≡ latest_of past → newest ≡ newest_stamp Nums → past ≡ handed_on hold Nums
-      → is_late_by hold latest newest (moment_of X) ≡ b → goes_back hold X Nums ≡ b
-  back-told latest newest past b a l n p e =
-      sym (back-is hold X Nums f.forward_is a)
-      ∙ ap (λ (m : ℕ). is_late_by hold m (newest_stamp Nums) (moment_of X)) (ap latest_of (sym p) ∙ sym l)
-      ∙ ap (λ (m : ℕ). is_late_by hold latest m (moment_of X)) (sym n)
+  pub back-told : (latest : ℕ) (past : Numbers) (b : Bool) → is_arrival x.head.becomes ≡ true
+      → latest ≡ latest_of past → past ≡ handed_on most Nums → nat_lt (moment_of X) latest ≡ b
+      → goes_back most X Nums ≡ b
+  back-told latest past b a l p e =
+      sym (back-is most X Nums f.forward_is a)
+      ∙ ap (λ (n : ℕ). nat_lt (moment_of X) n) (ap latest_of (sym p) ∙ sym l)
       ∙ e
 
-  -- where nothing is due
-  pub all-held : (held : List (Item Number)) (past : Numbers) (h : AreHeld hold read held past) → h.due ≡ []
-      → take h.most (in_order Nums) ≡ WasHeld
-  all-held held past h none = h.parts ∙ ap (λ (xs : Numbers). WasHeld ++ xs) none ∙ append-nil WasHeld
-
-  pub all-handed : (held : List (Item Number)) (past : Numbers) (h : AreHeld hold read held past) → h.due ≡ []
-      → past ≡ handed_on hold Nums
-  all-handed held past h none = ap (λ (xs : Numbers). xs ++ past) (sym none) ∙ h.handed
-
-  -- nothing is due, and it is skipped
+  -- it is skipped
   pub pass-held : (held : List (Item Number)) (past : Numbers) → is_arrival x.head.becomes ≡ false
-      → (h : AreHeld hold read held past) → h.due ≡ [] → AreHeld hold (x ∷ read) held (X ∷ past)
-  pass-held held past e h none =
-      let same = skipped-order X Nums e in
-      let due = drop Count WasHeld in record {
-        most = h.most;
-        due = due;
-        are_held = subst (λ (xs : Numbers). IsPermutation held (take h.most xs)) (sym same) h.are_held;
-        parts = ap (λ (xs : Numbers). take h.most xs) same ∙ all-held held past h none
-            ∙ (skipped-parts hold X Nums e).0;
-        handed = ap (λ (xs : Numbers). due ++ X ∷ xs) (all-handed held past h none)
-            ∙ sym (append_assoc due (X ∷ []) (handed_on hold Nums)) ∙ sym (skipped-handed hold X Nums e);
-      }
+      → AreHeld most read held past → AreHeld most (x ∷ read) held (X ∷ past)
+  pass-held held past e h = record {
+    are_held = subst (λ (xs : Numbers). IsPermutation held (take most xs)) (sym (skipped-order X Nums e)) h.are_held;
+    handed = ap (λ (xs : Numbers). X ∷ xs) h.handed ∙ sym (skipped-handed most X Nums e);
+  }
 
-  -- or it is held with the others
+  -- it is held, and there is room
   pub hold-held : (held held' : List (Item Number)) (past : Numbers) → is_arrival x.head.becomes ≡ true
-      → goes_back hold X Nums ≡ false → IsPermutation (X ∷ held) held' → (h : AreHeld hold read held past)
-      → h.due ≡ [] → AreHeld hold (x ∷ read) held' past
-  hold-held held held' past a back p h none =
-      let more = put_among X WasHeld in
-      let due = drop Count more in
-      let first : take (length more) (in_order (X ∷ Nums)) ≡ more =
-      ap (λ (xs : Numbers). take (length more) xs) (put-held hold X Nums a back)
-      ∙ take-append_seam more (drop (length WasHeld) (in_order Nums)) in
-      let was : IsPermutation held WasHeld =
-      subst (λ (xs : Numbers). IsPermutation held xs) (all-held held past h none) h.are_held in record {
-        most = length more;
-        due = due;
-        are_held = subst (λ (xs : Numbers). IsPermutation held' xs) (sym first)
-            (IsPermutation-trans held' (X ∷ held) more (IsPermutation-sym (X ∷ held) held' p)
-            (put-permutes X held WasHeld was));
-        parts = first ∙ (arrival-parts hold X Nums a back).0;
-        handed = ap (λ (xs : Numbers). due ++ xs) (all-handed held past h none) ∙ sym (arrival-handed hold X Nums a);
+      → IsPermutation (X ∷ held) held' → length held' ≤ most → AreHeld most read held past
+      → AreHeld most (x ∷ read) held' past
+  hold-held held held' past a p room h =
+      let n = permutes-length (X ∷ held) held' p in
+      let m = permutes-length held HeldArrivals h.are_held in
+      let k = held-more most X Nums a (omega (arith, n, m, room)) in record {
+        are_held = IsPermutation-trans held' (X ∷ held) (take most (in_order (X ∷ Nums)))
+            (IsPermutation-sym (X ∷ held) held' p)
+            (subst (λ (xs : Numbers). IsPermutation (X ∷ held) xs) (sym k.1)
+            (put-permutes X held HeldArrivals h.are_held));
+        handed = h.handed ∙ sym k.0;
       }
 
--- it stands, where none is ever held
-pub stand-held : (hold : Hold) (read : List (Item AsRead)) (x : Item AsRead) → AreForward hold read → hold ≡ Within 0
-    → (held : List (Item Number)) (past : Numbers) → is_arrival x.head.becomes ≡ true
-    → (h : AreHeld hold read held past) → h.due ≡ [] → AreHeld hold (x ∷ read) held (number_read x ∷ past)
-unfolding put_among
-stand-held (Within zero) read x f e held past a h none =
-    let nums = numbers_read read in
-    let empty : take h.most (in_order nums) ≡ [] = h.parts ∙ none in record {
-      most = 0;
-      due = [];
-      are_held = subst (λ (xs : Numbers). IsPermutation held xs) empty h.are_held;
-      parts = refl;
-      handed = ap (λ (xs : Numbers). number_read x ∷ xs) (ap (λ (xs : Numbers). xs ++ past) (sym none) ∙ h.handed)
-          ∙ sym (arrival-handed (Within 0) (number_read x) nums a);
-    }
-stand-held (Within (suc n)) read x f e held past a h none = absurd (cc)
-stand-held (Live ns) read x f e held past a h none = absurd (cc)
+  -- what is held with it falls
+  put-falls : is_arrival x.head.becomes ≡ true → (back : goes_back most X Nums ≡ false) →
+      IsFalling (put_among X HeldArrivals)
+  put-falls a back =
+      let g = more-forward back in
+      let all = order-falls (x ∷ read) g.few g.numbered in
+      let split = arrival-order X Nums a
+      ∙ put-split X most (in_order Nums) (sorting.order-falls Nums) (few-later most X Nums a back) in
+      let front = put_among X HeldArrivals in
+      subst IsFalling (take-append_seam front (drop most (in_order Nums)))
+      (falling-take (length front) (front ++ drop most (in_order Nums)) (subst IsFalling split all))
 
--- ---- what is due
+  -- it is held, and the first of all is handed on
+  pub exchange-held : (held held' held'' : List (Item Number)) (past : Numbers) (y : Item Number)
+      → is_arrival x.head.becomes ≡ true → goes_back most X Nums ≡ false → IsPermutation (X ∷ held) held'
+      → most < length held' → ComesFirst y held'' → IsPermutation held' (y ∷ held'') → AreHeld most read held past
+      → AreHeld most (x ∷ read) held'' (y ∷ past)
+  exchange-held held held' held'' past y a back p full first q h =
+      let n = permutes-length (X ∷ held) held' p in
+      let m = permutes-length held HeldArrivals h.are_held in
+      let k = held-full most X Nums a back (omega (arith, n, m, full)) in
+      let all = IsPermutation-trans held' (X ∷ held) (put_among X HeldArrivals) (IsPermutation-sym (X ∷ held) held' p)
+      (put-permutes X held HeldArrivals h.are_held) in
+      let last = first-is-last (put_among X HeldArrivals) held' y held'' (put-falls a back) all q first in
+      let same = same-ends last.0 (take most (in_order (X ∷ Nums))) y k.0 (sym last.1 ∙ k.1) in record {
+        are_held = subst (λ (xs : Numbers). IsPermutation held'' xs) same.front last.2;
+        handed = rw (same.last, h.handed) (sym k.2);
+      }
 
-module _ (hold : Hold) (read : List (Item AsRead)) (f : AreForward hold read) (held : List (Item Number))
-    (past : Numbers) (h : AreHeld hold read held past) where
-  abbrev Sorted : Numbers
-  Sorted = in_order (numbers_read read)
+  first-put : most ≡ 0 → put_among X (take most (in_order Nums)) ≡ X ∷ []
+  unfolding put_among
+  first-put e = ap (λ (n : ℕ). put_among X (take n (in_order Nums))) e
 
-  abbrev Firsts : Numbers
-  Firsts = take h.most Sorted
-
-  -- the first of those that are held is the last of them in order
-  last-held : (y : Item Number) (rest : List (Item Number)) → IsPermutation held (y ∷ rest) → ComesFirst y rest
-      → (front : List (Item Number)) × (Firsts ≡ front ++ y ∷ []) × IsPermutation rest front
-  last-held y rest p first =
-      first-is-last Firsts held y rest (falling-take h.most Sorted (order-falls read f.few f.numbered)) h.are_held p
-      first
-
-  -- nothing is due
-  pub due-none : (newest : ℕ) → newest ≡ newest_stamp (numbers_read read) → IsNoneDue hold newest held → h.due ≡ []
-  due-none newest e none = by hold refl none h.parts
-    where
-      by : (k : Hold) → hold ≡ k → IsNoneDue k newest held
-          → Firsts ≡ held_of k (newest_stamp (numbers_read read)) Sorted ++ h.due → h.due ≡ []
-      by (Within most) is few parts =
-          let n = permutes-length held Firsts h.are_held in
-          let m = ap (λ (xs : Numbers). length xs) parts in
-          let l = length-append (take most Sorted) h.due in
-          nil_from_length h.due (omega (arith, n, m, l, few, length-take h.most Sorted, length-take most Sorted))
-      by (Live ns) is (inl nothing) parts =
-          let empty = permutes-none Firsts (subst (λ (xs : List (Item Number)). IsPermutation xs Firsts) nothing
-          h.are_held) in
-          no-more (unreached ns (newest_stamp (numbers_read read)) Sorted) h.due (sym empty ∙ parts)
-      by (Live ns) is (inr first) parts =
-          let at = last-held first.first first.is_first.others first.is_first.are_held first.is_first.comes in
-          none-behind ns (newest_stamp (numbers_read read)) h.most Sorted at.0 h.due first.first
-          (sorting.order-falls (numbers_read read)) parts at.1
-          (ap (λ (n : ℕ). is_reached ns n (moment_of first.first)) (sym e) ∙ first.moment)
-
-  -- or something is
-  due-some : (newest : ℕ) → newest ≡ newest_stamp (numbers_read read) → IsDue hold newest held → h.due ≡ [] → ⊥
-  due-some newest e due none = by hold refl due h.parts
-    where
-      by : (k : Hold) → hold ≡ k → IsDue k newest held
-          → Firsts ≡ held_of k (newest_stamp (numbers_read read)) Sorted ++ h.due → ⊥
-      by (Within most) is many parts =
-          let n = permutes-length held Firsts h.are_held in
-          let m = ap (λ (xs : Numbers). length xs) parts in
-          let l = length-append (take most Sorted) h.due in
-          let z = ap (λ (xs : Numbers). length xs) none in
-          absurd (omega (arith, n, m, l, z, many, length-take most Sorted))
-      by (Live ns) is first parts =
-          let at = last-held first.first first.is_first.others first.is_first.are_held first.is_first.comes in
-          let u = unreached ns (newest_stamp (numbers_read read)) Sorted in
-          let all : u ≡ at.0 ++ first.first ∷ [] =
-          sym (append-nil u) ∙ ap (λ (xs : Numbers). u ++ xs) (sym none) ∙ sym parts ∙ at.1 in
-          let far = last-unreached ns (newest_stamp (numbers_read read)) Sorted at.0 first.first all in
-          absurd (let k = sym first.moment ∙ ap (λ (n : ℕ). is_reached ns n (moment_of first.first)) e ∙ far in cc)
-
-  -- the first of all is given
-  pub give-due : (newest : ℕ) (held' : List (Item Number)) (y : Item Number)
-      → newest ≡ newest_stamp (numbers_read read) → IsDue hold newest held → ComesFirst y held'
-      → IsPermutation held (y ∷ held') → AreHeld hold read held' (y ∷ past)
-  give-due newest held' y e due first p =
-      let at = last-held y held' p first in
-      let last = split-last (held_behind hold (numbers_read read)) h.due at.0 y (due-some newest e due)
-      (sym h.parts ∙ at.1) in
-      let k = left-handed h.most Sorted at.0 y at.1 in record {
-        most = length at.0;
-        due = last.0;
-        are_held = subst (λ (xs : Numbers). IsPermutation held' xs) k.0 at.2;
-        parts = sym k.0 ∙ last.1;
-        handed = sym (append_assoc last.0 (y ∷ []) past) ∙ ap (λ (xs : Numbers). xs ++ past) (sym last.2) ∙ h.handed;
+  -- it stands, where none is ever held
+  pub stand-held : (held : List (Item Number)) (past : Numbers) → most ≡ 0 → is_arrival x.head.becomes ≡ true
+      → goes_back most X Nums ≡ false → AreHeld most read held past → AreHeld most (x ∷ read) held (X ∷ past)
+  stand-held held past none a back h =
+      let k = held-full most X Nums a back (omega (arith, none)) in
+      let one : put_among X (take most (in_order Nums)) ≡ X ∷ [] = first-put none in
+      let rest : take most (in_order (X ∷ Nums)) ≡ [] = ap (λ (n : ℕ). take n (in_order (X ∷ Nums))) none in
+      let same = same-ends [] [] X k.0 (sym one ∙ k.1 ∙ ap (λ (xs : Numbers). xs ++ k.0 ∷ []) rest) in record {
+        are_held = subst (λ (xs : Numbers). IsPermutation held xs)
+            (ap (λ (n : ℕ). take n (in_order Nums)) none ∙ sym rest) h.are_held;
+        handed = ap (λ (z : Item Number). z ∷ past) same.last ∙ ap (λ (xs : Numbers). k.0 ∷ xs) h.handed ∙ sym k.2;
       }
 
 -- ---- all was read
 
-pub left-at-end : (hold : Hold) (read : List (Item AsRead)) (held : List (Item Number)) (past : Numbers)
-    → AreHeld hold read held past → AreLeft hold read held past
-left-at-end hold read held past h =
-    let first = held_behind hold (numbers_read read) in record {
-      most = h.most;
-      are_held = h.are_held;
-      handed = ap (λ (xs : Numbers). xs ++ past) h.parts ∙ append_assoc first h.due past
-          ∙ ap (λ (xs : Numbers). first ++ xs) h.handed;
+pub left-at-end : (most : ℕ) (read : List (Item AsRead)) (held : List (Item Number)) (past : Numbers)
+    → AreHeld most read held past → AreLeft most read held past
+left-at-end most read held past h =
+    let s = in_order (numbers_read read) in record {
+      left = most;
+      are_held = subst (λ (xs : Numbers). IsPermutation held xs) (sym (take-twice most s)) h.are_held;
+      handed = h.handed ∙ ap (λ (xs : Numbers). xs ++ handed_on most (numbers_read read)) (sym (drop-taken most s));
     }
 
-module _ (hold : Hold) (read : List (Item AsRead)) (f : AreForward hold read) where
+module _ (most : ℕ) (read : List (Item AsRead)) (f : AreForward most read) where
+  abbrev Rest : Numbers
+  Rest = take most (in_order (numbers_read read))
+
   -- one more is given
   pub record GivesLeft (held : List (Item Number)) (past : Numbers) (y : Item Number) : Type 0 where
-    pub left : AreLeft hold read held (y ∷ past)
+    pub left : AreLeft most read held (y ∷ past)
     pub follows : NumberFollows past y
 
   pub give-left : (held held' : List (Item Number)) (past : Numbers) (y : Item Number) → ComesFirst y held'
-      → IsPermutation held (y ∷ held') → AreLeft hold read held past → GivesLeft held' past y
+      → IsPermutation held (y ∷ held') → AreLeft most read held past → GivesLeft held' past y
   give-left held held' past y first p h =
-      let s = in_order (numbers_read read) in
-      let falls = falling-take h.most s (order-falls read f.few f.numbered) in
-      let last = first-is-last (take h.most s) held y held' falls h.are_held p first in
-      let k = left-handed h.most s last.0 y last.1 in
-      let handed = sym (append_assoc last.0 (y ∷ []) past) ∙ ap (λ (xs : Numbers). xs ++ past) (sym last.1)
-      ∙ h.handed in
-      record {
+      let t = Rest in
+      let falls = falling-take h.left t (falling-take most (in_order (numbers_read read))
+      (order-falls read f.few f.numbered)) in
+      let last = first-is-last (take h.left t) held y held' falls h.are_held p first in
+      let k = left-handed h.left t last.0 y last.1 in
+      let handed = ap (λ (xs : Numbers). y ∷ xs) h.handed
+      ∙ ap (λ (xs : Numbers). xs ++ handed_on most (numbers_read read)) k.1 in record {
         left = record {
-          most = length last.0;
+          left = length last.0;
           are_held = subst (λ (xs : Numbers). IsPermutation held' xs) k.0 last.2;
-          handed = ap (λ (xs : Numbers). xs ++ y ∷ past) (sym k.0) ∙ handed;
+          handed = handed;
         };
-        follows = follows-handed hold read f last.0 past y handed;
+        follows = follows-handed most read f (take (length last.0) t) past y
+            (left-behind most (length last.0) (numbers_read read) (y ∷ past) handed);
       }
 
   -- none is left
-  pub none-left : (held : List (Item Number)) (past : Numbers) → held ≡ [] → AreLeft hold read held past
-      → past ≡ all_handed hold (numbers_read read)
+  pub none-left : (held : List (Item Number)) (past : Numbers) → held ≡ [] → AreLeft most read held past
+      → past ≡ all_handed most (numbers_read read)
   none-left held past e h =
-      let rest = take h.most (in_order (numbers_read read)) in
-      let none = permutes-none rest (subst (λ (xs : List (Item Number)). IsPermutation xs rest) e h.are_held) in
-      ap (λ (xs : Numbers). xs ++ past) (sym none) ∙ h.handed
+      let none = permutes-none (take h.left Rest)
+      (subst (λ (xs : List (Item Number)). IsPermutation xs (take h.left Rest)) e h.are_held) in
+      ap (λ (xs : Numbers). xs ++ past) (sym none) ∙ left-behind most h.left (numbers_read read) past h.handed

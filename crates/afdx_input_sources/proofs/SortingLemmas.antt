@@ -1,9 +1,10 @@
 -- Arrivals in order: where one more is put, how many are later, and what falls behind.
-use Rattle.std.proofs.Common.{◌≡◌, ◌≤◌, ◌+◌, ℕ, suc, zero, [], ◌∷◌, ◌++◌, length, take, drop}
+use Rattle.std.proofs.Common.{◌≡◌, ◌<◌, ◌≤◌, ◌+◌, ℕ, suc, zero, [], ◌∷◌, ◌++◌, length, take, drop}
 use Rattle.std.proofs.Common.{refl, ap, sym, ◌∙◌}
-use Rattle.std.proofs.Common.{Bool, true, false, nat_lt, arith}
-use Rattle.std.proofs.Common.{take-append-drop}
+use Rattle.std.proofs.Common.{Bool, true, false, nat_lt, min, arith}
+use Rattle.std.proofs.Common.{take_all, take-append-drop, drop_at, length-take}
 use Rattle.std.proofs.lemmas.Bool.{and_right, cond_both, le-ltb, lt-ltb, ltb-false, ltb-true}
+use Rattle.std.proofs.lemmas.List.{drop_all, drop-append-le, take-append-le}
 use Rattle.afdx_input_sources.specs.Engine.{Item}
 use Rattle.afdx_input_sources.specs.declared.number.Number.{Number}
 use Rattle.afdx_input_sources.specs.Ordering.{in_order, is_later, later_among, moment_of, put_among}
@@ -124,7 +125,7 @@ later-order z (x ∷ past) =
     (λ is. more-later z x past (in_order past) (later-order z past) ∙ sym (later-put z x (in_order past)))
     (λ is. later-skipped z x past is ∙ later-order z past)
 
-pub none-later : (x : Item Number) (s : Numbers) → Falls s → first_moment s ≤ moment_of x → later_among x s ≡ 0
+none-later : (x : Item Number) (s : Numbers) → Falls s → first_moment s ≤ moment_of x → later_among x s ≡ 0
 unfolding later_among
 none-later x [] f h = refl
 none-later x (y ∷ s) f h =
@@ -193,3 +194,55 @@ put-split x zero (y ∷ s) f h = split-none x y s (is_later y x) f h refl
 put-split x (suc n) [] f h = refl
 put-split x (suc n) (y ∷ s) f h =
     split-more x y n s (is_later y x) f (λ k. put-split x n s f.2 k) h refl
+
+-- fewer than `n` stand in order: all are among the first
+pub record IsFew (n : ℕ) (x : Item Number) (s : Numbers) : Type 0 where
+  pub first : take n (put_among x s) ≡ put_among x (take n s)
+  pub none_behind : drop n (put_among x s) ≡ []
+  pub none_before : drop n s ≡ []
+
+few-short : (n l m : ℕ) → m ≡ min n l → m + 1 ≤ n → l + 1 ≤ n
+few-short n l m e h = omega (arith, e, h)
+
+pub is-few : (n : ℕ) (x : Item Number) (s : Numbers) → length (take n s) + 1 ≤ n → IsFew n x s
+is-few n x s h =
+    let k = few-short n (length s) (length (take n s)) (length-take n s) h in
+    let all : length (put_among x s) ≤ n = omega (arith, k, length-put x s) in record {
+      first = take_all n (put_among x s) all ∙ ap (put_among x) (sym (take_all n s (omega (arith, k))));
+      none_behind = drop_all n (put_among x s) all;
+      none_before = drop_all n s (omega (arith, k));
+    }
+
+-- `n` or more: one falls behind
+pub record IsFull (n : ℕ) (x : Item Number) (s : Numbers) : Type 0 where
+  pub y : Item Number
+  pub first : put_among x (take n s) ≡ take n (put_among x s) ++ y ∷ []
+  pub behind : drop n (put_among x s) ≡ y ∷ drop n s
+
+last-of : (n : ℕ) (l : Numbers) → length l ≡ n + 1 → (y : Item Number) × (l ≡ take n l ++ y ∷ [])
+last-of n [] e = absurd (omega (arith, e))
+last-of zero (y ∷ []) e = (y, refl)
+last-of zero (y ∷ z ∷ l) e = absurd (omega (arith, e))
+last-of (suc n) (y ∷ l) e =
+    let h = last-of n l (omega (arith, e)) in (h.0, ap (λ (l : Numbers). y ∷ l) h.1)
+
+full-long : (n l m : ℕ) → m ≡ min n l → n < m + 1 → m ≡ n
+full-long n l m e h = omega (arith, e, h)
+
+pub is-full : (n : ℕ) (x : Item Number) (s : Numbers) → Falls s → later_among x s ≤ n
+    → n < length (take n s) + 1 → IsFull n x s
+is-full n x s f h k =
+    let long = full-long n (length s) (length (take n s)) (length-take n s) k in
+    let put = put_among x (take n s) in
+    let count : length put ≡ n + 1 = omega (arith, length-put x (take n s), long) in
+    let last = last-of n put count in
+    let few : n ≤ length put = omega (arith, count) in
+    let all = put-split x n s f h in
+    let front : length (take n put) ≡ n = length-take n put ∙ (omega (arith, count)) in record {
+      y = last.0;
+      first = last.1 ∙ ap (λ (l : Numbers). l ++ last.0 ∷ [])
+          (sym (ap (take n) all ∙ take-append-le n put (drop n s) few));
+      behind = ap (drop n) all ∙ drop-append-le n put (drop n s) few
+          ∙ ap (λ (l : Numbers). l ++ drop n s)
+          (ap (drop n) last.1 ∙ drop_at (take n put) (last.0 ∷ []) n front);
+    }

@@ -190,18 +190,18 @@ skipped-next : (n : Number) (counts : SkipCounts) (m : ℕ) → skipped_in count
     skipped_in (count_one n counts) ≤ suc m
 skipped-next (Arrival found) counts m h =
     let e = take-keeps found.is_claimed found.is_contradicted counts in omega (arith, h, e)
-skipped-next (Skipped passed) counts m h = let e = skip-adds passed.reason counts in omega (arith, h, e)
+skipped-next (Skipped r) counts m h = let e = skip-adds r counts in omega (arith, h, e)
 
 claimed-next : (n : Number) (counts : SkipCounts) (m : ℕ) → counts.claimed ≤ m → (count_one n counts).claimed ≤ suc m
 claimed-next (Arrival found) counts m h =
     let e = take-adds found.is_claimed found.is_contradicted counts in omega (arith, h, e)
-claimed-next (Skipped passed) counts m h = let e = skip-keeps passed.reason counts in omega (arith, h, e)
+claimed-next (Skipped r) counts m h = let e = skip-keeps r counts in omega (arith, h, e)
 
 against-next : (n : Number) (counts : SkipCounts) (m : ℕ) → counts.contradicted ≤ m
     → (count_one n counts).contradicted ≤ suc m
 against-next (Arrival found) counts m h =
     let e = take-against found.is_claimed found.is_contradicted counts in omega (arith, h, e)
-against-next (Skipped passed) counts m h = let e = skip-passes passed.reason counts in omega (arith, h, e)
+against-next (Skipped r) counts m h = let e = skip-passes r counts in omega (arith, h, e)
 
 pub few-skipped : (past : Numbers) → skipped_in (counts_of past) ≤ length past
 unfolding counts_of skipped_in

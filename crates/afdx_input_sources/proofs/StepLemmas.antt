@@ -1,14 +1,11 @@
 -- What a source of numbers in order gives in one step, from the source that it reads.
 use Rattle.std.proofs.Common.{◌≡◌, ◌≤◌, ◌<◌, ◌+◌, ℕ, List, [], ◌∷◌, ◌++◌, length, refl, ap, sym, ◌∙◌, subst, arith}
-use Rattle.std.proofs.Common.{None, Ok, Err, IfErr, Result, Bool, true, false, inl, inr, ◌⊎◌, max}
+use Rattle.std.proofs.Common.{Some, None, Ok, true, false, inl, inr, ◌⊎◌}
 use Rattle.afdx_input_lines.specs.declared.fault.RunFault.{RunFault}
 use Rattle.afdx_input_lines.specs.declared.fault.RunFault.TheVariants as run
 use Rattle.afdx_input_lines.specs.declared.recording_fault.RecordingFault.{RecordingFault}
 use Rattle.afdx_input_sources.specs.Engine.{Item}
-use Rattle.afdx_input_lines.specs.declared.next.Progress.{Progress}
 use Rattle.afdx_input_lines.specs.declared.next.Progress.TheVariants as progress
-use Rattle.afdx_input_sources.specs.declared.hold.Hold.{Hold}
-use Rattle.afdx_input_sources.specs.declared.hold.Hold.TheVariants.{Within, Live}
 use Rattle.afdx_input_sources.specs.declared.number.AsRead.{AsRead}
 use Rattle.afdx_input_sources.specs.declared.number.Number.{Number}
 use Rattle.afdx_input_sources.specs.declared.ordered.Ordered.{Ordered}
@@ -17,16 +14,17 @@ use Rattle.afdx_input_sources.specs.declared.ordered.Stage.TheVariants.{Reading,
 use Rattle.afdx_input_sources.specs.NumberLines.{NumberFollows, ReadFollows}
 use Rattle.afdx_input_sources.specs.OrderedSource.{AreForward, AreHeld, HasOrdered, HasOrderedAll, HasStoppedOrdering}
 use Rattle.afdx_input_sources.specs.OrderedSource.{StandsAt, given_in_order}
-use Rattle.afdx_input_sources.specs.OrderedSteps.{GoesBack, HandsOn, Holds, IsDue, IsNoneDue, Passes, Stands, TakesIn}
-use Rattle.afdx_input_sources.specs.OrderedSteps.{is_late_by, left_by, left_in_order, newest_with, steps_by, steps_left}
-use Rattle.afdx_input_sources.specs.Ordering.{goes_back, handed_on, moment_of, newest_stamp, stamp_of}
-use Rattle.afdx_input_sources.specs.Sequences.{Numbers, is_arrival, latest_of, moment_or, number_read, numbers_read}
+use Rattle.afdx_input_sources.specs.OrderedSteps.{Exchanges, GoesBack, HandsOn, Holds, Passes, Stands, TakesIn}
+use Rattle.afdx_input_sources.specs.OrderedSteps.{left_by, left_in_order, steps_by, steps_left}
+use Rattle.afdx_input_sources.specs.Ordering.{goes_back, in_order, moment_of}
+use Rattle.afdx_input_sources.specs.Sequences.{Numbers, latest_of, moment_or, number_read, numbers_read}
 use Rattle.std.specs.List.Sorted.{IsPermutation}
 use Rattle.afdx_input_sources.proofs.FallingLemmas.{permutes-length}
-use Rattle.afdx_input_sources.proofs.OrderedLemmas.{all-handed, back-told, due-none, follows-held, give-due, give-left}
-use Rattle.afdx_input_sources.proofs.OrderedLemmas.{hold-held, latest-next, left-at-end, more-forward, newest-next, none-left}
-use Rattle.afdx_input_sources.proofs.OrderedLemmas.{pass-held, skipped-forward, stand-held}
+use Rattle.afdx_input_sources.proofs.OrderedLemmas.{back-told, exchange-held, follows-handed, give-left}
+use Rattle.afdx_input_sources.proofs.OrderedLemmas.{hold-held, latest-next, left-at-end, more-forward, none-left, pass-held}
+use Rattle.afdx_input_sources.proofs.OrderedLemmas.{skipped-forward, stand-held}
 use Rattle.afdx_input_sources.proofs.HandingLemmas.{moment-none, moment-same}
+use Rattle.std.proofs.Common.{take}
 
 module _ {S I : Type 0} (current : S → Item AsRead) (gave ended : I → S → I → List (Item AsRead) → Type 0)
     (stopped : I → S → I → List (Item AsRead) → RunFault → Type 0) where
@@ -39,23 +37,21 @@ module _ {S I : Type 0} (current : S → Item AsRead) (gave ended : I → S → 
   -- the end isn't known, and these were read
   pub record IsReading (start : I) (ordered : Ordered S) (input : I) (past : Numbers) : Type 0 where
     pub read : List (Item AsRead)
-    pub are_forward : AreForward ordered.hold read
+    pub are_forward : AreForward ordered.most read
     pub latest : ordered.latest ≡ latest_of past
-    pub newest : ordered.newest ≡ newest_stamp (numbers_read read)
     pub gave_them : gave start ordered.source input read
-    pub are_held : AreHeld ordered.hold read ordered.held past
+    pub are_held : AreHeld ordered.most read ordered.held past
 
   pub is-reading : (start : I) (ordered : Ordered S) (input : I) (past : Numbers) → ordered.stage ≡ Reading
       → Gave start ordered input past → IsReading start ordered input past
   is-reading start ordered input past e h =
-      let k : StandsAt gave ended stopped Reading ordered.hold start ordered.source input h.read ordered.held past =
-      subst (λ (s : Stage). StandsAt gave ended stopped s ordered.hold start ordered.source input
+      let k : StandsAt gave ended stopped Reading ordered.most start ordered.source input h.read ordered.held past =
+      subst (λ (s : Stage). StandsAt gave ended stopped s ordered.most start ordered.source input
       h.read ordered.held past)
       e h.stands in record {
         read = h.read;
         are_forward = h.are_forward;
         latest = h.latest;
-        newest = h.newest;
         gave_them = k.0;
         are_held = k.1;
       }
@@ -66,8 +62,7 @@ module _ {S I : Type 0} (current : S → Item AsRead) (gave ended : I → S → 
     read = h.read;
     are_forward = h.are_forward;
     latest = h.latest;
-    newest = h.newest;
-    stands = subst (λ (s : Stage). StandsAt gave ended stopped s ordered.hold start ordered.source input h.read
+    stands = subst (λ (s : Stage). StandsAt gave ended stopped s ordered.most start ordered.source input h.read
         ordered.held past) (sym e) (h.gave_them, h.are_held);
   }
 
@@ -76,162 +71,130 @@ module _ {S I : Type 0} (current : S → Item AsRead) (gave ended : I → S → 
     pub gave_them : Gave start ordered input (Given ordered ∷ past)
     pub follows : NumberFollows past (Given ordered)
 
+  follows-held : (most : ℕ) (read : List (Item AsRead)) → AreForward most read → (held : List (Item Number))
+      (past : Numbers) (y : Item Number) → AreHeld most read held (y ∷ past) → NumberFollows past y
+  follows-held most read f held past y h =
+      follows-handed most read f (take most (in_order (numbers_read read))) past y
+      (ap (λ (xs : Numbers). take most (in_order (numbers_read read)) ++ xs) h.handed)
+
   -- ---- a number was read behind those
 
   module _ (start : I) (mid : Ordered S) (input : I) (past : Numbers) (reading : mid.stage ≡ Reading)
-      (read : List (Item AsRead)) (f : AreForward mid.hold read) (latest : mid.latest ≡ latest_of past)
-      (newest : mid.newest ≡ newest_stamp (numbers_read read)) (h : AreHeld mid.hold read mid.held past)
-      (none-due : IsNoneDue mid.hold mid.newest mid.held)
-      (gave_one : gave start mid.source input (current mid.source ∷ read))
+      (read : List (Item AsRead)) (f : AreForward mid.most read) (latest : mid.latest ≡ latest_of past)
+      (h : AreHeld mid.most read mid.held past) (gave_one : gave start mid.source input (current mid.source ∷ read))
       (follows : ReadFollows read (current mid.source)) where
     abbrev X : Item AsRead
     X = current mid.source
 
     abbrev Forward-to : Type 0
-    Forward-to = goes_back mid.hold (number_read X) (numbers_read read) ≡ false
-
-    nothing : h.due ≡ []
-    nothing = due-none mid.hold read f mid.held past h mid.newest newest none-due
-
-    -- whether it goes back
-    told : (b : Bool) → is_arrival X.head.becomes ≡ true
-        → is_late_by mid.hold mid.latest mid.newest (moment_of (number_read X)) ≡ b
-        → goes_back mid.hold (number_read X) (numbers_read read) ≡ b
-    told b a e =
-        back-told mid.hold read X f follows mid.latest mid.newest past b a latest newest
-        (all-handed mid.hold read X f follows mid.held past h nothing) e
-
-    newest-one : max mid.newest (stamp_of X.head.becomes) ≡ newest_stamp (numbers_read (X ∷ read))
-    newest-one = newest-next (number_read X) (numbers_read read) mid.newest newest
+    Forward-to = goes_back mid.most (number_read X) (numbers_read read) ≡ false
 
     -- it is skipped
     passes : (new : Ordered S) → Passes X mid new → GivesNext start new input past
     passes new p =
-        let e = skipped-forward mid.hold read X f follows p.skipped in
-        let g = more-forward mid.hold read X f follows e in
-        let k = pass-held mid.hold read X f follows mid.held past p.skipped h nothing in
+        let e = skipped-forward mid.most read X f follows p.skipped in
+        let g = more-forward mid.most read X f follows e in
+        let k = pass-held mid.most read X f follows mid.held past p.skipped h in
         subst (λ (o : Ordered S). GivesNext start o input past) (sym p.new_is) (record {
-          gave_them = still-reading start _ input (number_read X ∷ past) reading (record {
-            read = X ∷ read;
-            are_forward = g;
-            latest = latest ∙ sym (latest-next (number_read X) past
-                ∙ moment-none X.head.becomes (latest_of past) p.skipped);
-            newest = newest-one;
-            gave_them = gave_one;
-            are_held = k;
-          });
-          follows = follows-held mid.hold (X ∷ read) g mid.held past (number_read X) k;
+          gave_them = still-reading start (record mid { is_held = false }) input
+              (number_read X ∷ past) reading (record {
+                read = X ∷ read;
+                are_forward = g;
+                latest = latest ∙ sym (latest-next (number_read X) past
+                    ∙ moment-none X.head.becomes (latest_of past) p.skipped);
+                gave_them = gave_one;
+                are_held = k;
+              });
+          follows = follows-held mid.most (X ∷ read) g mid.held past (number_read X) k;
         })
 
     -- it stands
     stands : (new : Ordered S) → Stands X mid new → GivesNext start new input past
     stands new p =
         let a = p.in_time.arrives in
-        let e : Forward-to = told false a p.in_time.forward in
-        let g = more-forward mid.hold read X f follows e in
-        let k = stand-held mid.hold read X f p.none mid.held past a h nothing in
+        let e : Forward-to = back-told mid.most read X f follows mid.latest past false a latest
+        h.handed p.in_time.forward in
+        let g = more-forward mid.most read X f follows e in
+        let k = stand-held mid.most read X f follows mid.held past p.none a e h in
         subst (λ (o : Ordered S). GivesNext start o input past) (sym p.new_is) (record {
           gave_them = still-reading start _ input (number_read X ∷ past) reading (record {
             read = X ∷ read;
             are_forward = g;
             latest = moment-same X.head.becomes 0 (latest_of past) a ∙ sym (latest-next (number_read X) past);
-            newest = newest-one;
             gave_them = gave_one;
             are_held = k;
           });
-          follows = follows-held mid.hold (X ∷ read) g mid.held past (number_read X) k;
+          follows = follows-held mid.most (X ∷ read) g mid.held past (number_read X) k;
+        })
+
+    -- it is held, and another is handed on
+    exchanges : (new : Ordered S) → Exchanges X mid new → GivesNext start new input past
+    exchanges new p =
+        let a = p.like.in_time.arrives in
+        let e : Forward-to = back-told mid.most read X f follows mid.latest past false a latest h.handed
+        p.like.in_time.forward in
+        let g = more-forward mid.most read X f follows e in
+        let y = p.hands.first in
+        let k = exchange-held mid.most read X f follows mid.held p.held new.held past y a e p.like.are_held p.full
+        p.hands.comes p.hands.are_held h in
+        subst (λ (o : Ordered S). GivesNext start o input past) (sym p.hands.new_is) (record {
+          gave_them = still-reading start _ input (y ∷ past) reading (record {
+            read = X ∷ read;
+            are_forward = g;
+            latest = ap (λ (n : ℕ). moment_or y.head n) latest ∙ sym (latest-next y past);
+            gave_them = gave_one;
+            are_held = k;
+          });
+          follows = follows-held mid.most (X ∷ read) g new.held past y k;
         })
 
     pub took-one : (new : Ordered S) → TakesIn X mid new (Ok progress.Given) → GivesNext start new input past
     took-one new (inl p) = passes new p
-    took-one new (inr p) = stands new p
+    took-one new (inr (inl p)) = stands new p
+    took-one new (inr (inr p)) = exchanges new p
 
-    -- it is held
+    -- it is held, and there is room
     holds : (new : Ordered S) → Holds X mid new → Gave start new input past
     holds new p =
-        let a = p.in_time.arrives in
-        let e : Forward-to = told false a p.in_time.forward in
+        let a = p.like.in_time.arrives in
+        let e : Forward-to = back-told mid.most read X f follows mid.latest past false a latest h.handed
+        p.like.in_time.forward in
         subst (λ (o : Ordered S). Gave start o input past) (sym p.new_is)
-        (still-reading start _ input past reading (record {
+        (still-reading start (record mid { held = p.held; last = None }) input past reading (record {
           read = X ∷ read;
-          are_forward = more-forward mid.hold read X f follows e;
+          are_forward = more-forward mid.most read X f follows e;
           latest = latest;
-          newest = newest-one;
           gave_them = gave_one;
-          are_held = hold-held mid.hold read X f follows mid.held p.held past a e p.are_held h nothing;
+          are_held = hold-held mid.most read X f follows mid.held p.held past a p.like.are_held p.room h;
         }))
 
     -- it goes back
     goes : (new : Ordered S) → GoesBack X mid new → Gave start new input past
     goes new p =
-        let e = told true p.arrives p.back in
+        let e = back-told mid.most read X f follows mid.latest past true p.arrives latest h.handed p.back in
         subst (λ (o : Ordered S). Gave start o input past) (sym p.new_is) (record {
           read = read;
           are_forward = f;
           latest = latest;
-          newest = newest;
-          stands = (inr (X, gave_one, e, refl), left-at-end mid.hold read mid.held past h);
+          stands = (inr (X, gave_one, e, refl), left-at-end mid.most read mid.held past h);
         })
 
     pub took-none : (new : Ordered S) → TakesIn X mid new (Ok progress.NotYet) → Gave start new input past
     took-none new (inl p) = holds new p
     took-none new (inr p) = goes new p
 
-    -- or there is no memory for it
-    pub took-fault : (new : Ordered S) (r : Result Progress RunFault) → TakesIn X mid new r
-        → IfErr r (HasStoppedOrdering gave ended stopped start new input past)
-    took-fault new (Ok progress.Given) p = tt
-    took-fault new (Ok progress.NotYet) p = tt
-    took-fault new (Err fault) p = inr (inr (record {
-      read = read;
-      x = X;
-      are_forward = subst (λ (hold : Hold). AreForward hold read) (sym p.2) f;
-      gave_them = subst (λ (s : S). gave start s input (X ∷ read)) (sym p.1) gave_one;
-      fault_is = p.0;
-      known = all-handed mid.hold read X f follows mid.held past h nothing
-          ∙ ap (λ (hold : Hold). handed_on hold (numbers_read read)) (sym p.2);
-    }))
-
-  -- ---- or one is due
-
-  pub gives-due : (start : I) (old : Ordered S) (input : I) (past : Numbers) → old.stage ≡ Reading
-      → Gave start old input past → (new : Ordered S) → IsDue old.hold old.newest old.held → HandsOn old new
-      → GivesNext start new input past
-  gives-due start old input past reading g new due p =
-      let r = is-reading start old input past reading g in
-      let k = give-due old.hold r.read r.are_forward old.held past r.are_held old.newest new.held p.first r.newest due
-      p.comes p.are_held in
-      subst (λ (o : Ordered S). GivesNext start o input past) (sym p.new_is) (record {
-        gave_them = still-reading start _ input (p.first ∷ past) reading (record {
-          read = r.read;
-          are_forward = r.are_forward;
-          latest = ap (λ (n : ℕ). moment_or p.first.head n) r.latest ∙ sym (latest-next p.first past);
-          newest = r.newest;
-          gave_them = r.gave_them;
-          are_held = k;
-        });
-        follows = follows-held old.hold r.read r.are_forward new.held past p.first k;
-      })
-
   -- ---- or none
 
   module _ (start : I) (mid : Ordered S) (input : I) (past : Numbers) (read : List (Item AsRead))
-      (f : AreForward mid.hold read) (latest : mid.latest ≡ latest_of past)
-      (newest : mid.newest ≡ newest_stamp (numbers_read read)) (h : AreHeld mid.hold read mid.held past) where
-    -- nothing is due
-    pub known : IsNoneDue mid.hold mid.newest mid.held → past ≡ handed_on mid.hold (numbers_read read)
-    known none =
-        ap (λ (xs : Numbers). xs ++ past) (sym (due-none mid.hold read f mid.held past h mid.newest newest none))
-        ∙ h.handed
-
+      (f : AreForward mid.most read) (latest : mid.latest ≡ latest_of past)
+      (h : AreHeld mid.most read mid.held past) where
     -- all was read
     pub ends : ended start mid.source input read → Gave start (record mid { stage = Over }) input past
     ends e = record {
       read = read;
       are_forward = f;
       latest = latest;
-      newest = newest;
-      stands = (e, left-at-end mid.hold read mid.held past h);
+      stands = (e, left-at-end mid.most read mid.held past h);
     }
 
     -- or a fault stands behind it
@@ -241,8 +204,7 @@ module _ {S I : Type 0} (current : S → Item AsRead) (gave ended : I → S → 
       read = read;
       are_forward = f;
       latest = latest;
-      newest = newest;
-      stands = (inl e, left-at-end mid.hold read mid.held past h);
+      stands = (inl e, left-at-end mid.most read mid.held past h);
     }
 
   -- ---- the end is known
@@ -255,33 +217,31 @@ module _ {S I : Type 0} (current : S → Item AsRead) (gave ended : I → S → 
         by : (s : Stage) → old.stage ≡ s → GivesNext start new input past
         by Reading e = absurd (known e)
         by Over e =
-            let k = subst (λ (s : Stage). StandsAt gave ended stopped s old.hold start old.source
+            let k = subst (λ (s : Stage). StandsAt gave ended stopped s old.most start old.source
             input g.read old.held past)
             e g.stands in
-            let l = give-left old.hold g.read g.are_forward old.held new.held past p.first p.comes p.are_held k.1 in
+            let l = give-left old.most g.read g.are_forward old.held new.held past p.first p.comes p.are_held k.1 in
             subst (λ (o : Ordered S). GivesNext start o input past) (sym p.new_is) (record {
               gave_them = record {
                 read = g.read;
                 are_forward = g.are_forward;
                 latest = ap (λ (n : ℕ). moment_or p.first.head n) g.latest ∙ sym (latest-next p.first past);
-                newest = g.newest;
-                stands = subst (λ (s : Stage). StandsAt gave ended stopped s old.hold start old.source input g.read
+                stands = subst (λ (s : Stage). StandsAt gave ended stopped s old.most start old.source input g.read
                     new.held (p.first ∷ past)) (sym e) (k.0, l.left);
               };
               follows = l.follows;
             })
         by (Stopped fault) e =
-            let k = subst (λ (s : Stage). StandsAt gave ended stopped s old.hold start old.source
+            let k = subst (λ (s : Stage). StandsAt gave ended stopped s old.most start old.source
             input g.read old.held past)
             e g.stands in
-            let l = give-left old.hold g.read g.are_forward old.held new.held past p.first p.comes p.are_held k.1 in
+            let l = give-left old.most g.read g.are_forward old.held new.held past p.first p.comes p.are_held k.1 in
             subst (λ (o : Ordered S). GivesNext start o input past) (sym p.new_is) (record {
               gave_them = record {
                 read = g.read;
                 are_forward = g.are_forward;
                 latest = ap (λ (n : ℕ). moment_or p.first.head n) g.latest ∙ sym (latest-next p.first past);
-                newest = g.newest;
-                stands = subst (λ (s : Stage). StandsAt gave ended stopped s old.hold start old.source input g.read
+                stands = subst (λ (s : Stage). StandsAt gave ended stopped s old.most start old.source input g.read
                     new.held (p.first ∷ past)) (sym e) (k.0, l.left);
               };
               follows = l.follows;
@@ -290,19 +250,19 @@ module _ {S I : Type 0} (current : S → Item AsRead) (gave ended : I → S → 
     -- none is held any more
     pub drained : old.stage ≡ Over → old.held ≡ [] → HasOrderedAll gave ended stopped start old input past
     drained e none =
-        let k = subst (λ (s : Stage). StandsAt gave ended stopped s old.hold start old.source input
+        let k = subst (λ (s : Stage). StandsAt gave ended stopped s old.most start old.source input
         g.read old.held past)
         e g.stands in record {
           read = g.read;
           are_forward = g.are_forward;
           ended_so = k.0;
-          all = none-left old.hold g.read g.are_forward old.held past none k.1;
+          all = none-left old.most g.read g.are_forward old.held past none k.1;
         }
 
     pub drained-fault : (fault : RecordingFault) → old.stage ≡ Stopped fault → old.held ≡ []
         → HasStoppedOrdering gave ended stopped start old input past (run.Recording fault)
     drained-fault fault e none =
-        let k = subst (λ (s : Stage). StandsAt gave ended stopped s old.hold start old.source input
+        let k = subst (λ (s : Stage). StandsAt gave ended stopped s old.most start old.source input
         g.read old.held past)
         e g.stands in inl (record {
           read = g.read;
@@ -310,7 +270,7 @@ module _ {S I : Type 0} (current : S → Item AsRead) (gave ended : I → S → 
           why = fault;
           fault_is = refl;
           stops = k.0;
-          all = none-left old.hold g.read g.are_forward old.held past none k.1;
+          all = none-left old.most g.read g.are_forward old.held past none k.1;
         })
 
 -- ---- how many steps are left, and how much can be given
@@ -342,16 +302,27 @@ module _ {S : Type 0} (left_of : S → ℕ) (old : Ordered S) (s : S) (reading :
 
   pub took-less : TakesIn x Mid new (Ok progress.Given) → IsLess new
   took-less (inl p) =
-      let k = left-of (record Mid { newest = newest_with x Mid; is_held = false }) reading refl in
+      let k = left-of (record Mid { is_held = false }) reading refl in
       subst IsLess (sym p.new_is) (omega (arith, k, left-is, less))
-  took-less (inr p) =
-      let o = record Mid { newest = newest_with x Mid; is_held = false; latest = moment_of (number_read x) } in
+  took-less (inr (inl p)) =
+      let o = record Mid { is_held = false; latest = moment_of (number_read x) } in
       let k = left-of o reading refl in subst IsLess (sym p.new_is) (omega (arith, k, left-is, less))
+  took-less (inr (inr p)) =
+      let o = record Mid {
+        held = new.held;
+        last = Some p.hands.first;
+        is_held = true;
+        latest = moment_or p.hands.first.head old.latest;
+      } in
+      let k = left-of o reading refl in
+      let n = held-more p.held p.like.are_held in
+      let m = permutes-length p.held (p.hands.first ∷ new.held) p.hands.are_held in
+      subst IsLess (sym p.hands.new_is) (omega (arith, k, left-is, less, n, m))
 
   pub took-no-more : TakesIn x Mid new (Ok progress.NotYet) → left_in_order left_of new ≤ left_in_order left_of old
   took-no-more (inl p) =
-      let k = left-of (record Mid { newest = newest_with x Mid; held = p.held; last = None }) reading refl in
-      let n = held-more p.held p.are_held in
+      let k = left-of (record Mid { held = p.held; last = None }) reading refl in
+      let n = held-more p.held p.like.are_held in
       subst (λ (o : Ordered S). left_in_order left_of o ≤ left_in_order left_of old) (sym p.new_is)
       (omega (arith, k, left-is, less, n))
   took-no-more (inr p) =
@@ -360,8 +331,7 @@ module _ {S : Type 0} (left_of : S → ℕ) (old : Ordered S) (s : S) (reading :
 
   pub took-step : TakesIn x Mid new (Ok progress.NotYet) → steps_left left_of new < steps_left left_of old
   took-step (inl p) =
-      let k : steps_left left_of (record Mid { newest = newest_with x Mid; held = p.held; last = None })
-      ≡ left_of s + 1 =
+      let k : steps_left left_of (record Mid { held = p.held; last = None }) ≡ left_of s + 1 =
       ap (λ (t : Stage). steps_by t (left_of s)) reading in
       subst (λ (o : Ordered S). steps_left left_of o < steps_left left_of old) (sym p.new_is)
       (omega (arith, k, steps-is, less))
@@ -383,31 +353,6 @@ drains-less {S} left_of old new known p =
     by Reading e = absurd (known e)
     by Over e = rw e fewer
     by (Stopped fault) e = rw e fewer
-
--- one of those that are held can be handed on
-no-first : (x : Item Number) (others : List (Item Number)) → IsPermutation [] (x ∷ others) → ⊥
-no-first x others p = absurd (omega (arith, permutes-length [] (x ∷ others) p))
-
-due-some : (hold : Hold) (newest : ℕ) (held : List (Item Number)) → IsDue hold newest held → held ≡ [] → ⊥
-due-some (Within most) newest held many e =
-    absurd (omega (arith, many, ap (λ (xs : List (Item Number)). length xs) e))
-due-some (Live ns) newest held first e =
-    no-first first.first first.is_first.others (subst (λ (xs : List (Item Number)).
-    IsPermutation xs (first.first ∷ first.is_first.others)) e first.is_first.are_held)
-
-pub hands-due : {S : Type 0} (old new : Ordered S) (b : Bool) → (b ≡ true → HandsOn old new)
-    → (b ≡ false → (old.held ≡ []) × (new ≡ old)) → IsDue old.hold old.newest old.held → HandsOn old new
-hands-due old new true first none due = first refl
-hands-due old new false first none due = absurd (due-some old.hold old.newest old.held due (none refl).0)
-
--- one is due
-pub due-less : {S : Type 0} (left_of : S → ℕ) (old new : Ordered S) → old.stage ≡ Reading → HandsOn old new
-    → left_in_order left_of new < left_in_order left_of old
-due-less {S} left_of old new reading p =
-    let n = permutes-length old.held (p.first ∷ new.held) p.are_held in
-    let fewer : length new.held < length old.held = omega (arith, n) in
-    subst (λ (o : Ordered S). left_in_order left_of o < left_in_order left_of old) (sym p.new_is)
-    (rw reading (omega (arith, fewer)))
 
 -- at its end a source has no more than what is held
 pub ends-less : {S : Type 0} (left_of : S → ℕ) (old : Ordered S) → old.stage ≡ Reading

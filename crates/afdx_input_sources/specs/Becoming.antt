@@ -24,7 +24,6 @@ use Rattle.afdx_input_files.specs.declared.recorded.RecordedFrame.{RecordedFrame
 use Rattle.afdx_input_files.specs.declared.recorded.Recorded.{Recorded}
 use Rattle.afdx_input_files.specs.declared.recorded.Recorded.TheVariants as recorded
 use Rattle.afdx_input_sources.specs.declared.entering.Entrance.{Entrance}
-use Rattle.afdx_input_sources.specs.declared.hold.Hold.{Hold}
 use Rattle.afdx_input_sources.specs.declared.becoming.FoundFrame.{FoundFrame}
 use Rattle.afdx_input_sources.specs.declared.becoming.NoArrival.{NoArrival}
 use Rattle.afdx_input_sources.specs.declared.becoming.NoArrival.TheVariants.{Skipped, Faulted}
@@ -39,8 +38,8 @@ use Rattle.afdx_input_sources.specs.Claims.{Ports, side_claimed}
 
 -- what the options say: the place of each interface, whether one of which nothing is said is left
 -- out, whether frames end with their check sequence, the moment that is time 0, the network whose
--- recording it is, whether it is the second of two, how long an arrival is held, and whether stamps
--- are those of first bits, of what came in and of what left
+-- recording it is, whether it is the second of two, by how many arrivals times may go back, and
+-- whether stamps are those of first bits, of what came in and of what left
 pub record Options : Type 0 where
   pub place : ℕ → Option TapPoint
   pub leaves_unsaid : Bool
@@ -48,7 +47,7 @@ pub record Options : Type 0 where
   pub origin : Option ℕ
   pub network : Option Side
   pub is_second : Bool
-  pub hold : Hold
+  pub reorder : ℕ
   pub from_start : Bool
   pub left_from_start : Bool
 
@@ -60,7 +59,7 @@ options_of options = record {
   origin = options.origin;
   network = options.network;
   is_second = options.is_second;
-  hold = options.hold;
+  reorder = options.reorder;
   from_start = options.from_start;
   left_from_start = options.left_from_start;
 }
@@ -96,16 +95,6 @@ abbrev pub moment_of : ℕ → Stamp → Result ℕ NoArrival
 moment_of n Missing = Err (Faulted (NoTime n))
 moment_of n Bad = Err (Faulted (BadTime n))
 moment_of n (At moment) = Ok moment
-
--- the stamp of what takes a number, where it has one that is a moment
-abbrev pub stamp_said : Stamp → Option ℕ
-stamp_said Missing = None
-stamp_said Bad = None
-stamp_said (At moment) = Some moment
-
-abbrev pub stamp_in : Recorded → Option ℕ
-stamp_in recorded.NoFrame = None
-stamp_in (recorded.Frame frame) = stamp_said frame.stamp
 
 -- whether a frame ends with its check sequence, if that is said: by an option, else by the recorder
 abbrev pub ends_with_sequence : Option Bool → CheckSequence → Option Bool
@@ -274,10 +263,9 @@ abbrev pub is_before : Option ℕ → ℕ → Bool
 is_before (Some origin) moment = nat_lt moment origin
 is_before None moment = false
 
-abbrev pub found_with : (is_second : Bool) → (stamp moment : ℕ) → Entrance → FrameKind → FoundFrame
-found_with is_second stamp moment entrance kind = record {
+abbrev pub found_with : (is_second : Bool) → ℕ → Entrance → FrameKind → FoundFrame
+found_with is_second moment entrance kind = record {
   moment = moment;
-  stamp = stamp;
   role = entrance.role;
   is_second = is_second;
   side = entrance.side;
@@ -300,7 +288,7 @@ frame_becomes options ports n frame bytes = do
   check (not (is_before options.origin moment)) (Skipped BeforeOrigin)
   kind ← or_else (kind_with (ends_with_sequence options.fcs frame.check_sequence)
       frame.found_wrong bytes) (Faulted (FcsUnclear n))
-  Ok (found_with options.is_second stamp moment entrance (kind_used kind bytes))
+  Ok (found_with options.is_second moment entrance (kind_used kind bytes))
 
 -- the same of whatever takes the number n
 abbrev pub becomes : Options → Ports → (n : ℕ) → Recorded → List ℕ → Result FoundFrame NoArrival

@@ -54,7 +54,7 @@ skipped_in counts =
 abbrev pub count_one : Number → SkipCounts → SkipCounts
 count_one (number.Arrival found) counts =
     take_one found.is_claimed found.is_contradicted counts
-count_one (number.Skipped passed) counts = skip_one passed.reason counts
+count_one (number.Skipped reason) counts = skip_one reason counts
 
 -- so few are counted that two such sums can be added in 64 bits
 pub record AreFew (counts : SkipCounts) : Type 0 where

@@ -1,7 +1,6 @@
 -- Arrivals that are held: which of them comes first.
 use Rattle.std.specs.Prelude.{ℕ, ◌*◌, ◌+◌, ◌≡◌, ◌≤◌, Bool, ◌==◌, List, [], ◌∷◌, ⊤}
 use Rattle.std.specs.List.{All}
-use Rattle.std.specs.List.Sorted.{IsPermutation}
 use Rattle.std.specs.Ordering.{nat_cmp, flip_args, on}
 use Rattle.std.specs.declared.cmp.Ordering.{Ordering}
 use Rattle.afdx_input_sources.specs.Engine.{Item, item_of}
@@ -28,12 +27,6 @@ by_rank = flip_args (on rank nat_cmp)
 -- none of these comes before it
 abbrev pub ComesFirst : Item Number → List (Item Number) → Type 0
 ComesFirst x held = All (λ y. rank x ≤ rank y) held
-
--- it is one of them, and none of the others comes before it
-pub record IsFirst (x : Item Number) (held : List (Item Number)) : Type 0 where
-  pub others : List (Item Number)
-  pub are_held : IsPermutation held (x ∷ others)
-  pub comes : ComesFirst x others
 
 -- they stand as they come
 abbrev pub AreRising : List (Item Number) → Type 0

@@ -1,5 +1,5 @@
 -- Laws of what recorded frames become.
-use Rattle.std.specs.Prelude.{ℕ, ◌≡◌, ◌≤◌, List, [], ◌∷◌, Option, None}
+use Rattle.std.specs.Prelude.{ℕ, ◌≡◌, ◌≤◌, List, [], ◌∷◌, Option}
 use Rattle.afdx_frame.specs.declared.by_side.BySide.{BySide}
 use Rattle.afdx_frame.specs.Seals.{whole}
 use Rattle.afdx_frame.specs.Times.{latest_listed}
@@ -12,8 +12,6 @@ use Rattle.afdx_input_sources.specs.Lists.{latest_in}
 use Rattle.afdx_input_sources.specs.Listed.{frames}
 use Rattle.afdx_input_lines.specs.FrameLines.{frame_bytes}
 use Rattle.afdx_input_lines.specs.declared.frame_line.FrameKind.{FrameKind}
-use Rattle.afdx_input_sources.specs.declared.hold.Hold.{Hold}
-use Rattle.afdx_input_sources.specs.declared.places.TapPoint.{TapPoint}
 use Rattle.afdx_input_sources.specs.declared.places.TapPort.{TapPort}
 use Rattle.afdx_input_sources.specs.declared.timed_numbers.TimedNumbers.{TimedNumbers}
 use Rattle.afdx_input_sources.specs.declared.timed_pair.TimedPair.{TimedPair}
@@ -22,8 +20,8 @@ use Rattle.afdx_input_sources.specs.Claims.{Ports, Agree, ports_of}
 use Rattle.afdx_input_sources.specs.Entering.{IsEntered, IsEnteredInPair, IsEntry}
 use Rattle.afdx_input_sources.specs.NumberLines.{AreItems, arrivals_listed}
 use Rattle.afdx_input_sources.specs.OrderedRecording.{HasTaken, HasTakenAll, OrderedRecording, number_taken}
-use Rattle.afdx_input_sources.specs.Ordering.{arrivals_only, forward, in_order, ordered, sequence}
-use Rattle.afdx_input_sources.specs.Sequences.{Outcome, as_read}
+use Rattle.afdx_input_sources.specs.Ordering.{arrivals_only, forward, in_order, sequence}
+use Rattle.afdx_input_sources.specs.Sequences.{as_read}
 use Rattle.afdx_input_sources.specs.Taking.{arrivals_in, taken_of, taken_of_both}
 use Rattle.afdx_input_sources.specs.TimedPairSource.{HasPaired}
 use Rattle.afdx_input_sources.specs.TimedSource.{HasTimed}
@@ -42,18 +40,7 @@ ArrivalsHaveTheirBytes = (kind : FrameKind) (bytes : List ℕ) →
 abbrev pub ArrivalsAreTakenInOrder : Type 0
 ArrivalsAreTakenInOrder = (options : Options) (ports : Ports) (recording : Recording) →
     arrivals_only (sequence options ports recording).numbers
-    ≡ in_order (forward options.hold (as_read options ports recording).numbers).numbers
-
--- what is read of a recording is put in order in two ways, and by neither an arrival goes back: the
--- same arrivals are taken at the same times, and the same fault stands behind them
-abbrev pub HoldsAgree : Type 0
-HoldsAgree =
-    (said : Option ℕ) (place : ℕ → Option TapPoint) (outcome : Outcome) (one other : Hold) →
-    (forward one outcome.numbers).back ≡ None → (forward other outcome.numbers).back ≡ None →
-    (arrivals_in (taken_of said (ordered one place outcome))
-    ≡ arrivals_in (taken_of said (ordered other place outcome)))
-    × ((taken_of said (ordered one place outcome)).fault
-    ≡ (taken_of said (ordered other place outcome)).fault)
+    ≡ in_order (forward options.reorder (as_read options ports recording).numbers).numbers
 
 -- the times of these arrivals don't decrease, and none is too late
 abbrev pub AreInOrder : List Arrival → Type 0

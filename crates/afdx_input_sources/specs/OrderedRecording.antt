@@ -28,12 +28,11 @@ pub record IsUnread (source : OrderedRecording) : Type 0 where
   pub arrival : source.source.has_arrival ≡ false
   pub held : source.held ≡ []
   pub latest : source.latest ≡ 0
-  pub newest : source.newest ≡ 0
   pub stage : source.stage ≡ Reading
 
--- arrivals are held as long as the options say
+-- so many arrivals may come late, as the options say
 abbrev pub IsSetInOrder : OrderedRecording → Type 0
-IsSetInOrder source = source.hold ≡ source.source.options.hold
+IsSetInOrder source = source.most ≡ source.source.options.reorder
 
 -- the number that was given last
 abbrev pub number_taken : OrderedRecording → Item Number

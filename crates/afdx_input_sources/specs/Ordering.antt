@@ -1,14 +1,10 @@
 -- In which order the arrivals of a recording are taken: by their moments, and those of one moment
 -- as they stand. A list has the newest first, and one in order the latest.
-use Rattle.std.specs.Prelude.{ℕ, ◌+◌, ◌-◌, max, Bool, ◌&&◌, nat_le, nat_lt, [], ◌∷◌, ◌++◌, length, take, drop, Option, Some, None, if◌then◌else◌}
-use Rattle.std.specs.Option.{unwrap_or}
+use Rattle.std.specs.Prelude.{ℕ, ◌+◌, Bool, ◌&&◌, nat_lt, [], ◌∷◌, ◌++◌, length, take, drop, Option, Some, None, if◌then◌else◌}
 use Rattle.afdx_input_lines.specs.declared.recording_fault.RecordingFault.TheVariants.{TimeBack}
 use Rattle.afdx_input_files.specs.Recordings.{Recording, Ending, Faulted}
 use Rattle.afdx_input_sources.specs.Engine.{Item}
-use Rattle.afdx_input_sources.specs.declared.hold.Hold.{Hold}
-use Rattle.afdx_input_sources.specs.declared.hold.Hold.TheVariants.{Within, Live}
 use Rattle.afdx_input_sources.specs.declared.number.Number.{Number}
-use Rattle.afdx_input_sources.specs.declared.number.Number.TheVariants.{Arrival, Skipped}
 use Rattle.afdx_input_sources.specs.declared.counts.Tally.{Tally}
 use Rattle.afdx_input_sources.specs.declared.places.TapPoint.{TapPoint}
 use Rattle.afdx_input_sources.specs.Becoming.{Options}
@@ -42,29 +38,6 @@ arrivals_only [] = []
 arrivals_only (x ∷ past) =
     if is_arrival x.head then x ∷ arrivals_only past else arrivals_only past
 
--- ---- the clock of a recording: the greatest stamp of its numbers so far, less so many ns, or 0
-
--- the stamp of a number, or 0
-abbrev pub stamp_of : Number → ℕ
-stamp_of (Arrival found) = found.stamp
-stamp_of (Skipped passed) = unwrap_or passed.stamp 0
-
--- the greatest of all, whether they are skipped or not
-unfoldable pub newest_stamp : Numbers → ℕ
-newest_stamp [] = 0
-newest_stamp (x ∷ past) = max (newest_stamp past) (stamp_of x.head)
-
-abbrev pub clock : (ns newest : ℕ) → ℕ
-clock ns newest = newest - ns
-
--- it has reached a moment
-abbrev pub is_reached : (ns newest moment : ℕ) → Bool
-is_reached ns newest moment = nat_le moment (clock ns newest)
-
--- it is past that moment
-abbrev pub is_past : (ns newest moment : ℕ) → Bool
-is_past ns newest moment = nat_lt moment (clock ns newest)
-
 -- ---- how far it may go back
 
 -- how many of the arrivals among these have a later moment
@@ -73,66 +46,41 @@ later_among x [] = 0
 later_among x (y ∷ past) =
     (if is_arrival y.head && is_later y x then 1 else 0) + later_among x past
 
--- it comes too late behind these: more than `most` arrivals among them have a later moment, or the
--- clock behind them is past its moment
-abbrev pub is_back : Hold → Item Number → Numbers → Bool
-is_back (Within most) x past = nat_lt most (later_among x past)
-is_back (Live ns) x past = is_past ns (newest_stamp past) (moment_of x)
-
--- an arrival goes back too far
-abbrev pub goes_back : Hold → Item Number → Numbers → Bool
-goes_back hold x past = is_arrival x.head && is_back hold x past
+-- an arrival goes back too far: more than `most` of those before it have a later moment
+abbrev pub goes_back : (most : ℕ) → Item Number → Numbers → Bool
+goes_back most x past = is_arrival x.head && nat_lt most (later_among x past)
 
 -- numbers up to the first arrival that goes back too far, and its number
 pub record Forward : Type 0 where
   pub numbers : Numbers
   pub back : Option ℕ
 
-abbrev pub forward_next : Hold → Item Number → Numbers → Option ℕ → Forward
-forward_next hold x past (Some n) = record { numbers = past; back = Some n }
-forward_next hold x past None =
-    if goes_back hold x past then record { numbers = past; back = Some x.number }
+abbrev pub forward_next : (most : ℕ) → Item Number → Numbers → Option ℕ → Forward
+forward_next most x past (Some n) = record { numbers = past; back = Some n }
+forward_next most x past None =
+    if goes_back most x past then record { numbers = past; back = Some x.number }
     else record { numbers = x ∷ past; back = None }
 
-unfoldable pub forward : Hold → Numbers → Forward
-forward hold [] = record { numbers = []; back = None }
-forward hold (x ∷ past) =
-    let before = forward hold past in forward_next hold x before.numbers before.back
+unfoldable pub forward : (most : ℕ) → Numbers → Forward
+forward most [] = record { numbers = []; back = None }
+forward most (x ∷ past) =
+    let before = forward most past in forward_next most x before.numbers before.back
 
 -- ---- when they are taken
 
--- of arrivals in order, those whose moments the clock hasn't reached
-unfoldable pub unreached : (ns newest : ℕ) → Numbers → Numbers
-unreached ns newest [] = []
-unreached ns newest (x ∷ ordered) =
-    if is_reached ns newest (moment_of x) then [] else x ∷ unreached ns newest ordered
-
--- of arrivals in order, those that are held: behind which less than `most` come, or whose moments
--- the clock hasn't reached
-abbrev pub held_of : Hold → (newest : ℕ) → Numbers → Numbers
-held_of (Within most) newest ordered = take most ordered
-held_of (Live ns) newest ordered = unreached ns newest ordered
-
--- those that are held once these numbers were read
-abbrev pub held_behind : Hold → Numbers → Numbers
-held_behind hold past = held_of hold (newest_stamp past) (in_order past)
-
--- what one number more hands on: itself if it is skipped; then the arrivals that were held, or are
--- it, and needn't be held any more
-abbrev pub hands_on : Hold → Item Number → Numbers → Numbers
-hands_on hold x past =
-    let most = length (held_behind hold (x ∷ past)) in
-    if is_arrival x.head then drop most (put_among x (held_behind hold past))
-    else drop most (held_behind hold past) ++ x ∷ []
+-- what one number more hands on, where these are all arrivals so far: itself if it is skipped, else
+-- the arrival behind which `most` others come
+abbrev pub hands_on : (most : ℕ) → Item Number → Numbers → Numbers
+hands_on most x ordered = if is_arrival x.head then take 1 (drop most ordered) else x ∷ []
 
 -- what these numbers hand on, once they are read
-unfoldable pub handed_on : Hold → Numbers → Numbers
-handed_on hold [] = []
-handed_on hold (x ∷ past) = hands_on hold x past ++ handed_on hold past
+unfoldable pub handed_on : (most : ℕ) → Numbers → Numbers
+handed_on most [] = []
+handed_on most (x ∷ past) = hands_on most x (in_order (x ∷ past)) ++ handed_on most past
 
 -- and with what is still held where they end
-abbrev pub all_handed : Hold → Numbers → Numbers
-all_handed hold past = held_behind hold past ++ handed_on hold past
+abbrev pub all_handed : (most : ℕ) → Numbers → Numbers
+all_handed most past = take most (in_order past) ++ handed_on most past
 
 -- ---- the sequence of a recording
 
@@ -158,16 +106,16 @@ ending_or (Some n) ending = Faulted (TimeBack n)
 ending_or None ending = ending
 
 -- what is read, put in order
-abbrev pub ordered : Hold → (ℕ → Option TapPoint) → Outcome → Sequence
-ordered hold place outcome =
-    let all = forward hold outcome.numbers in
+abbrev pub ordered : (most : ℕ) → (ℕ → Option TapPoint) → Outcome → Sequence
+ordered most place outcome =
+    let all = forward most outcome.numbers in
     record {
-      numbers = all_handed hold all.numbers;
-      known = handed_on hold all.numbers;
+      numbers = all_handed most all.numbers;
+      known = handed_on most all.numbers;
       ending = ending_or all.back outcome.ending;
       tally = tally_of place outcome;
     }
 
 abbrev pub sequence : Options → Ports → Recording → Sequence
 sequence options ports recording =
-    ordered options.hold options.place (as_read options ports recording)
+    ordered options.reorder options.place (as_read options ports recording)

@@ -14,7 +14,7 @@ options_of_a options = record {
   origin = options.origin;
   network = Some A;
   is_second = false;
-  hold = options.hold;
+  reorder = options.reorder;
   from_start = options.from_start;
   left_from_start = false;
 }
@@ -28,7 +28,7 @@ options_of_b options = record {
   origin = options.origin;
   network = Some B;
   is_second = true;
-  hold = options.hold;
+  reorder = options.reorder;
   from_start = options.from_start;
   left_from_start = false;
 }

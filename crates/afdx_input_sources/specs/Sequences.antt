@@ -1,7 +1,7 @@
 -- What stands in a recording: its numbers one after another, up to the first fault that doesn't
 -- depend on their order. A list of them has the newest first.
 use Rattle.std.specs.Prelude.{ℕ, Bool, true, false, not, ◌+◌, ◌&&◌, ◌||◌, nat_lt, List, [], ◌∷◌, length, map}
-use Rattle.std.specs.Prelude.{Option, Result, Ok, Err, if◌then◌else◌}
+use Rattle.std.specs.Prelude.{Result, Ok, Err, if◌then◌else◌}
 use Rattle.afdx_input_lines.specs.declared.recording_fault.RecordingFault.{RecordingFault}
 use Rattle.afdx_input_lines.specs.declared.recording_fault.RecordingFault.TheVariants.{NoArrival}
 use Rattle.afdx_input_files.specs.Recordings.{Numbered, Recording, Totals, Ending, Over, Faulted}
@@ -13,7 +13,7 @@ use Rattle.afdx_input_sources.specs.declared.counts.SkipCounts.{SkipCounts}
 use Rattle.afdx_input_sources.specs.declared.number.AsRead.{AsRead}
 use Rattle.afdx_input_sources.specs.declared.number.Number.{Number}
 use Rattle.afdx_input_sources.specs.declared.number.Number.TheVariants.{Arrival, Skipped}
-use Rattle.afdx_input_sources.specs.Becoming.{Options, becomes, first_bytes, stamp_in}
+use Rattle.afdx_input_sources.specs.Becoming.{Options, becomes, first_bytes}
 use Rattle.afdx_input_sources.specs.Claims.{Ports}
 use Rattle.afdx_input_sources.specs.Counting.{no_counts, count_one}
 
@@ -51,18 +51,16 @@ unfoldable pub counts_of : Numbers → SkipCounts
 counts_of [] = no_counts
 counts_of (x ∷ past) = count_one x.head (counts_of past)
 
--- a number with this stamp, that becomes this
-abbrev pub number_by : (stamp : Option ℕ) → Result FoundFrame no_arrival.NoArrival →
-    Result Number RecordingFault
-number_by stamp (Ok found) = Ok (Arrival found)
-number_by stamp (Err (becomes_no.Skipped reason)) =
-    Ok (Skipped (record { reason = reason; stamp = stamp }))
-number_by stamp (Err (becomes_no.Faulted fault)) = Err fault
+-- a number that becomes this
+abbrev pub number_by : Result FoundFrame no_arrival.NoArrival → Result Number RecordingFault
+number_by (Ok found) = Ok (Arrival found)
+number_by (Err (becomes_no.Skipped reason)) = Ok (Skipped reason)
+number_by (Err (becomes_no.Faulted fault)) = Err fault
 
 -- what comes next is this number, behind these
 unfoldable pub number_after : Options → Ports → Numbers → Numbered → Result Number RecordingFault
 number_after options ports past item =
-    number_by (stamp_in item.what) (becomes options ports (length past + 1) item.what item.bytes)
+    number_by (becomes options ports (length past + 1) item.what item.bytes)
 
 -- all numbers up to the first fault, how that ends, and what the recording comes to by its end
 pub record Outcome : Type 0 where

@@ -30,7 +30,7 @@ unfoldable pub line_by : Option ℕ → Number → NumberLine
 line_by origin (Arrival found) =
     line.Arrival found.kind (found.moment - origin_or origin found.moment) found.role found.side
     found.switch found.port
-line_by origin (Skipped passed) = line.Skipped passed.reason
+line_by origin (Skipped reason) = line.Skipped reason
 
 -- its time is too large
 unfoldable pub is_late : Option ℕ → Number → Bool

@@ -7,7 +7,6 @@ ghost use Rattle.afdx_input_sources.specs.Claims.{ports_of};
 ghost use Rattle.afdx_input_sources.specs.Places as places;
 
 use crate::entering::entrance_of;
-use crate::hold::Hold;
 use crate::places::{Interfaces, TapPoint, TapPort};
 use crate::senders::SystemPorts;
 use crate::skipped::Skipped;
@@ -37,8 +36,8 @@ pub struct RecordingOptions {
     pub network: Option<Side>,
     /// Whether it is the second of two that are read at once.
     pub is_second: bool,
-    /// How long an arrival is held, so that one that stands behind it can come before it.
-    pub hold: Hold,
+    /// How many arrivals may have a later moment than one that stands behind them.
+    pub reorder: u32,
     /// Whether the stamps of what came in are those of frames' first bits, else of their last
     /// ones.
     pub from_start: bool,
@@ -55,7 +54,7 @@ impl RecordingOptions {
         ensures fcs { IfOk result (λ options. options.fcs ≡ None) }
         ensures origin { IfOk result (λ options. options.origin ≡ None) }
         ensures network { IfOk result (λ options. options.network ≡ None) }
-        ensures hold { IfOk result (λ options. options.hold ≡ Hold.Within 0) }
+        ensures reorder { IfOk result (λ options. options.reorder ≡ 0) }
         ensures start { IfOk result (λ options. options.from_start ≡ false) }
         ensures left_start { IfOk result (λ options. options.left_from_start ≡ false) }
         ensures unsaid { IfOk result (λ options. options.leaves_unsaid ≡ false) }
@@ -70,7 +69,7 @@ impl RecordingOptions {
             origin: None,
             network: None,
             is_second: false,
-            hold: Hold::Within(0),
+            reorder: 0,
             from_start: false,
             left_from_start: false,
             are_given: false,
@@ -83,8 +82,6 @@ impl RecordingOptions {
 pub struct FoundFrame {
     /// When it came, or left, in ns since 1970.
     pub moment: u64,
-    /// Its stamp, which may be that of its first bit.
-    pub stamp: u64,
     /// Which of both it did.
     pub role: Role,
     /// Whether it is of the second of two recordings that are read at once.
@@ -312,7 +309,6 @@ fn frame_becomes(
     };
     Ok(FoundFrame {
         moment,
-        stamp,
         role: entrance.role,
         is_second: options.is_second,
         side: entrance.side,
@@ -322,26 +318,6 @@ fn frame_becomes(
         is_contradicted: entrance.is_contradicted,
         kind: kind_used(kind, bytes),
     })
-}
-
-/// The moment of a stamp, where it is one.
-fn stamp_said(stamp: Stamp) -> Option<u64>
-    ensures { result ≡ spec.stamp_said stamp }
-{
-    match stamp {
-        Stamp::At(moment) => Some(moment),
-        Stamp::Missing | Stamp::Bad => None,
-    }
-}
-
-/// The stamp of what takes a number, where it has one that is a moment.
-pub(crate) fn stamp_in(recorded: &Recorded) -> Option<u64>
-    ensures { result ≡ spec.stamp_in recorded.now }
-{
-    match recorded {
-        Recorded::NoFrame => None,
-        Recorded::Frame(frame) => stamp_said(frame.stamp),
-    }
 }
 
 /// What the number n of a recording becomes, whose captured bytes these are.

@@ -62,7 +62,7 @@ impl Clock {
                     port: found.port,
                 })
             }
-            Number::Skipped(passed) => Some(NumberLine::Skipped(passed.reason)),
+            Number::Skipped(reason) => Some(NumberLine::Skipped(*reason)),
         }
     }
 }

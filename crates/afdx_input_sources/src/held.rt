@@ -9,9 +9,7 @@ ghost use Rattle.std.specs.Cmp.Rules.{comparing};
 ghost use Rattle.std.specs.List.Sorted.{IsPermutation};
 ghost use Rattle.std.specs.Ordering.{as_partial_cmp};
 ghost use Rattle.afdx_input_sources.specs.Holding as holding;
-ghost use Rattle.afdx_input_sources.specs.Holding.{AreRising, ComesFirst, IsFirst, Leads};
-ghost use Rattle.afdx_input_sources.specs.Holding.{arrival_item};
-ghost use Rattle.afdx_input_sources.specs.Ordering.{moment_of};
+ghost use Rattle.afdx_input_sources.specs.Holding.{AreRising, ComesFirst, Leads, arrival_item};
 
 use crate::becoming::FoundFrame;
 use crate::number::Number;
@@ -65,13 +63,6 @@ impl HeldArrival {
         ensures { result ≡ self.now.number }
     {
         self.kept.number
-    }
-
-    /// Its moment.
-    pub fn moment(&self) -> u64
-        ensures { result ≡ moment_of self.now }
-    {
-        self.kept.found.moment
     }
 
     /// What it is.
@@ -263,19 +254,6 @@ impl HeldArrivals {
             self.late.push(arrival)?;
         }
         Ok(())
-    }
-
-    /// The one that comes first. None: none is held.
-    #[inline(always)]
-    pub fn first(&self) -> Option<&HeldArrival>
-        ensures first { IfSome result (λ x. IsFirst x.now self.now) }
-        ensures none { IfNone result (self.now ≡ []) }
-    {
-        if is_late_first(&self.queue, &self.late) {
-            self.late.peek()
-        } else {
-            self.queue.front()
-        }
     }
 
     /// Takes out the one that comes first. None: none is held.

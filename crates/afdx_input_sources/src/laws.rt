@@ -22,12 +22,6 @@ pub fn arrivals_are_taken_in_order()
     ensures { laws.ArrivalsAreTakenInOrder }
 {}
 
-/// However long arrivals are held: where none goes back, the same ones are taken at the same times,
-/// and the same fault stands behind them.
-pub fn holds_agree()
-    ensures { laws.HoldsAgree }
-{}
-
 /// The times of the arrivals of a recording don't decrease, and none is over 10^15 ns.
 pub fn arrivals_are_in_order()
     ensures { laws.ArrivalsAreInOrder }

@@ -7,22 +7,13 @@ use crate::becoming::FoundFrame;
 use crate::engine::Head;
 use crate::skipped::Skipped;
 
-/// A number that is no arrival.
-#[derive(Clone, Copy, Debug, PartialEq, Eq)]
-pub struct PassedOver {
-    /// Why it is skipped.
-    pub reason: Skipped,
-    /// Its stamp, in ns since 1970, where it has one that is a moment.
-    pub stamp: Option<u64>,
-}
-
 /// What a number of a recording is.
 #[derive(Clone, Copy, Debug, PartialEq, Eq)]
 pub enum Number {
     /// An arrival, or a frame that left.
     Arrival(FoundFrame),
     /// It is skipped.
-    Skipped(PassedOver),
+    Skipped(Skipped),
 }
 
 impl Head for Number {

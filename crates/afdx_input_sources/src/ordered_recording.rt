@@ -21,9 +21,9 @@ pub fn read_in_order(
     ensures order { IfOk result IsSetInOrder }
     ensures unread { IfOk result IsUnread }
 {
-    let hold = options.hold;
+    let most = options.reorder;
     let recording = ReadRecording::new(alloc, options, ports)?;
-    Ok(Ordered::new(alloc, recording, hold))
+    Ok(Ordered::new(alloc, recording, most))
 }
 
 impl Ordered<ReadRecording> {

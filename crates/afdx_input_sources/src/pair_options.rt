@@ -5,7 +5,6 @@ ghost use Rattle.afdx_input_sources.specs.Becoming.{options_of};
 ghost use Rattle.afdx_input_sources.specs.PairOptions.{options_of_a, options_of_b};
 
 use crate::becoming::RecordingOptions;
-use crate::hold::Hold;
 use crate::places::Interfaces;
 use afdx_frame::{BySide, Side};
 
@@ -18,8 +17,8 @@ pub struct PairOptions {
     pub fcs: Option<bool>,
     /// The moment that is time 0, in ns since 1970, where that is said.
     pub origin: Option<u64>,
-    /// How long an arrival of each is held, so that one that stands behind it can come before it.
-    pub hold: Hold,
+    /// How many arrivals of each may have a later moment than one that stands behind them.
+    pub reorder: u32,
     /// Whether the stamps of both are those of frames' first bits, else of their last ones.
     pub from_start: bool,
 }
@@ -31,7 +30,7 @@ impl PairOptions {
         ensures b { options_of result.1 ≡ options_of_b self }
     {
         let BySide { a, b } = self.interfaces;
-        let (fcs, origin, hold) = (self.fcs, self.origin, self.hold);
+        let (fcs, origin, reorder) = (self.fcs, self.origin, self.reorder);
         let from_start = self.from_start;
         let of = |interfaces, network, is_second| RecordingOptions {
             interfaces,
@@ -40,7 +39,7 @@ impl PairOptions {
             origin,
             network: Some(network),
             is_second,
-            hold,
+            reorder,
             from_start,
             left_from_start: false,
             are_given: true,

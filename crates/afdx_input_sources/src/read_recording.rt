@@ -10,10 +10,10 @@ ghost use Rattle.afdx_input_sources.specs.RecordingSource as source;
 ghost use Rattle.afdx_input_sources.specs.RecordingSource.{FailsBy, RemembersOne};
 ghost use Rattle.afdx_input_sources.specs.Sequences.{Numbers};
 
-use crate::becoming::{NoArrival, RecordingOptions, becomes, first_bytes, stamp_in};
+use crate::becoming::{NoArrival, RecordingOptions, becomes, first_bytes};
 use crate::counts::{SkipCounts, Tally};
 use crate::engine::Source;
-use crate::number::{AsRead, Number, PassedOver};
+use crate::number::{AsRead, Number};
 use crate::senders::SystemPorts;
 use crate::skipped::Skipped;
 use afdx_input_files::FrameReader;
@@ -70,10 +70,7 @@ impl ReadRecording {
             counts: SkipCounts::none(),
             has_arrival: false,
             number: AsRead {
-                becomes: Number::Skipped(PassedOver {
-                    reason: Skipped::NoFrame,
-                    stamp: None,
-                }),
+                becomes: Number::Skipped(Skipped::NoFrame),
             },
         })
     }
@@ -131,8 +128,7 @@ impl ReadRecording {
             }
             Err(NoArrival::Skipped(reason)) => {
                 self.counts.skip(reason);
-                let stamp = stamp_in(&recorded);
-                self.number.becomes = Number::Skipped(PassedOver { reason, stamp });
+                self.number.becomes = Number::Skipped(reason);
                 Ok(())
             }
             Err(NoArrival::Faulted(fault)) => Err(RunFault::Recording(fault)),

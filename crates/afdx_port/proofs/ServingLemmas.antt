@@ -52,35 +52,6 @@ least-next numbers from to least n m h at is = elim (cases_lt n least) [
         let at_to : slice_get numbers to ≡ Some k = subst (λ z. slice_get numbers z ≡ Some k) same there in
         cc
 
--- one number alone
-least-one : (numbers : List ℕ) (at n : ℕ) → slice_get numbers at ≡ Some n → IsLeastIn numbers at (at + 1) n
-least-one numbers at n here = record {
-  place = at;
-  low = omega arith;
-  high = omega arith;
-  own = here;
-  lowest = λ i k low high there. (let same : i ≡ at = omega (arith, low, high) in
-      let at_one : slice_get numbers at ≡ Some k = subst (λ z. slice_get numbers z ≡ Some k) same there in
-      let e : n ≡ k = cc in
-      omega (arith, e));
-}
-
--- one number more, at a place that is said otherwise
-least-more : (numbers : List ℕ) (from to end least n m : ℕ) → end ≡ to + 1 → IsLeastIn numbers from to least
-    → slice_get numbers to ≡ Some n → m ≡ min least n → IsLeastIn numbers from end m
-least-more numbers from to end least n m past h at is =
-    subst (λ z. IsLeastIn numbers from z m) (sym past) (least-next numbers from to least n m h at is)
-
--- four numbers side by side
-pub least-four : (numbers : List ℕ) (at a b c d x y z : ℕ) → slice_get numbers at ≡ Some a
-    → slice_get numbers (at + 1) ≡ Some b → slice_get numbers (at + 2) ≡ Some c → slice_get numbers (at + 3) ≡ Some d
-    → x ≡ min a b → y ≡ min x c → z ≡ min y d → IsLeastIn numbers at (at + 4) z
-least-four numbers at a b c d x y z one two three four first second third =
-    least-more numbers at (at + 3) (at + 4) y d z (omega arith)
-    (least-more numbers at (at + 2) (at + 3) x c y (omega arith)
-    (least-more numbers at (at + 1) (at + 2) a b x (omega arith) (least-one numbers at a one) two first)
-    three second) four third
-
 get-replicate : (n i y z : ℕ) → slice_get (replicate n y) i ≡ Some z → (z ≡ y) × (i < n)
 get-replicate zero i y z h = absurd (cc h)
 get-replicate (suc n) zero y z h = (cc h, omega arith)

@@ -11,9 +11,6 @@ use crate::left::Due;
 /// Where a port without a turn to come stands: after each turn.
 const WITHOUT_TURN: u64 = 1 << 52;
 
-/// A time by which each turn is given that is to come.
-const LAST_GIVEN: u64 = (1 << 51) - 1;
-
 /// Where a port's next turn stands in the order in which ports are served together: by time, and
 /// at one time slots before drops. A port without a turn to come stands after all others.
 ///
@@ -75,7 +72,7 @@ impl TurnOrder {
         ensures { (due : Option DueTurn) → self.0 ≡ order_at due →
             IfSome due (λ d. given_at d ≤ drain_end) → (IsTrue result ↔ IsGivenBy until due) }
     {
-        self.0 <= 2 * until.min(LAST_GIVEN)
+        self.0 < WITHOUT_TURN && self.0.div_ceil(2) <= until
     }
 
     /// The number: twice the time, and one more for a drop; 2^52 for a port without a turn to come.

@@ -5,9 +5,6 @@ ghost use Rattle.afdx_frame.specs.Lengths.{least_frame, greatest_buffer};
 ghost use Rattle.afdx_port.specs.Times.{drain_end, latest_put};
 ghost use Rattle.afdx_port.specs.Schedule.{Turn, IsNext, IsSchedule};
 ghost use Rattle.afdx_port.specs.Due.{given_at};
-ghost use Rattle.afdx_port.specs.Held.{due_of, IsNextClass};
-ghost use Rattle.afdx_port.specs.Ports.{order_at};
-ghost use Rattle.afdx_port.specs.Sound.{IsPortSound};
 
 use crate::has_length::HasLength;
 use crate::left::{Due, Left};
@@ -27,21 +24,6 @@ pub struct Port<T: HasLength> {
     order: TurnOrder,
     /// The class of its frame, where that turn hasn't begun.
     class: Priority,
-}
-
-/// Where the next turn of a port stands, and the class of its frame, where no turn has begun. Both
-/// are found from one look at the queues.
-#[inline(always)]
-fn next_of<T: HasLength>(state: &PortState<T>) -> (TurnOrder, Priority)
-    requires sound { IsPortSound T.facts state.now }
-    requires idle { state.now.sending ≡ None }
-    ensures order { result.0.0 ≡ order_at (due_of T.facts state.now) }
-    ensures class { IsNextClass result.1 state.now }
-{
-    match state.next_turn() {
-        Some((due, class)) => (TurnOrder::of(Some(due)), class),
-        None => (TurnOrder::of(None), Priority::High),
-    }
 }
 
 impl<T: HasLength> Model for Port<T> {
@@ -108,7 +90,8 @@ impl<T: HasLength> Port<T> {
         }
         let taken = self.state.put(time, priority, item, self.order, self.class);
         if !self.state.is_sending() {
-            (self.order, self.class) = next_of(&self.state);
+            self.order = TurnOrder::of(self.state.due());
+            self.class = self.state.next_class();
         }
         taken
     }
@@ -171,7 +154,8 @@ impl<T: HasLength> Port<T> {
     {
         let due = self.order.turn();
         let left = self.state.take(until, due, self.class);
-        (self.order, self.class) = next_of(&self.state);
+        self.order = TurnOrder::of(self.state.due());
+        self.class = self.state.next_class();
         left
     }
 }

@@ -115,6 +115,17 @@ impl<T: HasLength> PortState<T> {
         }
     }
 
+    /// The class that goes next, if a frame waits.
+    #[inline]
+    pub(crate) fn next_class(&self) -> Priority
+        ensures { (c : Priority) (moment : ℕ) → choice_of self.now ≡ Some (c, moment) → result ≡ c }
+    {
+        match self.next_choice() {
+            Some((class, _)) => class,
+            None => Priority::High,
+        }
+    }
+
     /// The first frame of a class.
     fn front(&self, priority: Priority) -> Option<&Waiting<T>>
         ensures { option_copied result ≡ slice_get (queue_of priority self.now) 0 }
@@ -150,21 +161,22 @@ impl<T: HasLength> PortState<T> {
         self.sending.is_some()
     }
 
-    /// When the next turn is over, and the class of its frame, where no turn has begun.
+    /// When the next turn is over.
     #[inline]
-    pub(crate) fn next_turn(&self) -> Option<(Due, Priority)>
+    pub(crate) fn due(&self) -> Option<Due>
         requires sound { IsPortSound T.facts self.now }
-        requires idle { self.now.sending ≡ None }
-        ensures due { MatchOption result (due_of T.facts self.now ≡ None)
-            (λ turn. due_of T.facts self.now ≡ Some turn.0) }
-        ensures limit { IfSome result (λ turn. given_at turn.0 ≤ drain_end) }
-        ensures class { MatchOption result ((c : Priority) → IsNextClass c self.now)
-            (λ turn. IsNextClass turn.1 self.now) }
+        ensures due { result ≡ due_of T.facts self.now }
+        ensures limit { IfSome result (λ due. given_at due ≤ drain_end) }
     {
-        let (class, moment) = self.next_choice()?;
-        let front = self.front(class)?;
-        let due = self.turn_of(front.time, &front.item, moment);
-        Some((due, class))
+        if let Some(left) = &self.sending {
+            return Some(Due {
+                time: self.free,
+                too_old: left.too_old,
+            });
+        }
+        let (priority, moment) = self.next_choice()?;
+        let front = self.front(priority)?;
+        Some(self.turn_of(front.time, &front.item, moment))
     }
 
     /// Takes the first frame of a class.
@@ -323,7 +335,6 @@ impl<T: HasLength> PortState<T> {
         requires class { IsNextClass class self.old }
         ensures sound { IsPortSound T.facts self.new }
         ensures takes { Takes T.facts self.old self.new until (Some result) }
-        ensures idle { self.new.sending ≡ None }
     {
         self.clock = until;
         if self.sending.is_some() {

@@ -1,8 +1,8 @@
 //! Which of a switch's ports is served first.
 
-ghost use Rattle.std.specs.Prelude.{◌≡◌, ℕ, ◌+◌, ◌*◌, ◌<◌, ◌≤◌, List, length, slice_set};
+ghost use Rattle.std.specs.Prelude.{◌≡◌, ℕ, ◌<◌, ◌≤◌, List, length, slice_set};
 ghost use Rattle.afdx_frame.specs.Ports.{last_port};
-ghost use Rattle.afdx_port.specs.Keys.{key_of, group_size, AreRanked, IsLeastIn};
+ghost use Rattle.afdx_port.specs.Keys.{key_of, AreRanked, IsLeastIn};
 
 use crate::has_length::HasLength;
 use crate::order::TurnOrder;
@@ -45,18 +45,6 @@ fn least_in(numbers: &[u64], from: usize, to: usize) -> u64
     least
 }
 
-/// The least key of a group. It is no loop, whose end would be looked at.
-#[inline(always)]
-fn least_in_group(keys: &[u64], group: usize) -> u64
-    requires within { group_size * group + group_size ≤ length keys.now }
-    ensures { IsLeastIn keys.now (group_size * group) (group_size * group + group_size) result }
-{
-    let at = GROUP * group;
-    let least = keys[at].min(keys[at + 1]);
-    let least = least.min(keys[at + 2]);
-    least.min(keys[at + 3])
-}
-
 impl Serving {
     ghost use Rattle.afdx_port.specs.declared.port_state.PortState.{PortState};
     ghost use Rattle.afdx_port.specs.Ports.{AreServed, order_without_turn};
@@ -86,7 +74,7 @@ impl Serving {
     {
         self.keys[place] = KEY_PLACES * order.0 + place as u64;
         let group = place / GROUP;
-        self.least[group] = least_in_group(&self.keys, group);
+        self.least[group] = least_in(&self.keys, GROUP * group, GROUP * group + GROUP);
     }
 
     /// The port at this place has changed, and is now this one.

@@ -2,7 +2,7 @@
 use Rattle.std.proofs.Common.{◌≡◌, ◌≢◌, ℕ, ◌+◌, ◌-◌, ◌*◌, ◌^◌, ◌<◌, ◌≤◌, ◌==◌, max, Bool, true}
 use Rattle.std.proofs.Common.{false, if◌then◌else◌, option_map, List, [], ◌∷◌, ◌++◌, length, Option, Some}
 use Rattle.std.proofs.Common.{None, inl, inr, refl, sym, ap, subst, arith, ◌∙◌, suc, zero}
-use Rattle.std.proofs.Common.{slice_set, slice_index_or, map, sum_by, IfSome}
+use Rattle.std.proofs.Common.{slice_set, slice_index_or, map, sum_by}
 use Rattle.std.specs.List.{slice_get, AllByRecursion}
 use Rattle.std.proofs.lemmas.List.{map-set, length-map}
 use Rattle.std.proofs.lemmas.List.Sums.{sum_by-set}
@@ -37,7 +37,7 @@ use Rattle.afdx_port.proofs.TurnLemmas.{eqb-same}
 use Rattle.afdx_send.proofs.OwnLemmas.{own_set, own_before, all_stay, before_longer}
 use Rattle.afdx_send.proofs.RegulatorLemmas.{due, not_none}
 use Rattle.afdx_send.proofs.ReleaseLemmas.{get_set_same, get_set_other, length_set}
-use Rattle.afdx_send.proofs.StandLemmas.{none_before, held_more, line_at, next_limit}
+use Rattle.afdx_send.proofs.StandLemmas.{none_before, held_more}
 
 -- where a queue has a front that has come by t, the next release isn't after t
 old_next : (p : Regulator) (i c t : ℕ) (n : Queued) (ms : List Queued)
@@ -185,23 +185,6 @@ submission_stands w h place index line line' m ag st k =
           (let p = st.port_clock in omega arith);
       port_clock = (let p = st.port_clock in omega arith);
     }
-
--- what the link then releases next is within the limits of the port
-pub added_limit : (w : SenderState) (h : SenderHistory) (place index : ℕ) (line line' : SystemLink) (m : Queued)
-    → StandsFor w h → slice_get w.lines.items place ≡ Some line → Takes line line' index m
-    → m.time ≤ 1000000000000000 → w.clock ≡ m.time →
-    IfSome (next_time_of line'.regulator) (λ t. t ≤ 1000032768000000)
-added_limit w h place index line line' m st has takes early clock =
-    let a = line_at w h st place line has in
-    let ss = own_submissions h.taken place in
-    let rs = own place st.released in
-    let time : h.time ≡ m.time = sym st.clock ∙ clock in
-    let before : AllByRecursion (λ x. x.release.time < m.time) st.released =
-    before_longer h.time m.time st.released (omega arith) st.before in
-    next_limit line' a.row a.systems (ss ++ submission_of (index + 1) m ∷ []) rs a.lawful
-    (line_takes line line' index m a.row ss rs takes a.stands early
-    (own_before place m.time st.released before)
-    (λ q d g. (let c = st.come place q d g in omega arith)))
 
 pub stays_idle : (w : SenderState) (place index : ℕ) (line line' : SystemLink) (m : Queued) (ag : ReleaseAgenda)
     → Adds w place index line line' m ag → IsIdle w

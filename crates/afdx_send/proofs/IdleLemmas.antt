@@ -1,5 +1,5 @@
 -- A sender that knows that nothing is left to be done.
-use Rattle.std.proofs.Common.{◌≡◌, ◌<◌, ◌∙◌, Bool, true, false, true≢false, sym, not, ap, refl, Option, Some, None}
+use Rattle.std.proofs.Common.{◌≡◌, ◌<◌, ◌∙◌, Bool, true, true≢false, not, ap, refl, Option, Some, None}
 use Rattle.std.specs.Prelude.{is_some}
 use Rattle.afdx_port.specs.declared.left.Left.{Left}
 use Rattle.afdx_send.specs.declared.sender_state.SenderState.{SenderState}
@@ -30,7 +30,3 @@ knows_ready w left o is knows = record { idle = λ idle. absurd (never idle); so
 pub none_of : {X : Type 0} (o : Option X) (is : Bool) → is_some o ≡ not is → is ≡ true → o ≡ None
 none_of None is e true_is = refl
 none_of (Some x) is e true_is = absurd (true≢false (e ∙ ap not true_is))
-
-pub not_none : {X : Type 0} (o : Option X) (is : Bool) → is_some o ≡ not is → is ≡ false → o ≡ None → ⊥
-not_none None is e false_is none = true≢false (sym (e ∙ ap not false_is))
-not_none (Some x) is e false_is none = cc none

@@ -1,65 +1,66 @@
--- A release, or none, as one number.
-use Rattle.std.proofs.Common.{◌≡◌, ℕ, ◌+◌, ◌*◌, ◌/◌, ◌%◌, ◌<◌, ◌≤◌, ◌==◌, Bool, true, false, Option, Some, None, inl, inr, refl, ap, ap₂, arith, ◌∙◌}
+-- A release, or none, as two numbers.
+use Rattle.std.proofs.Common.{◌≡◌, ℕ, ◌+◌, ◌*◌, ◌<◌, ◌≤◌, ◌==◌, Bool, true, false, ◌&&◌, Option, Some, None, inl, inr, refl, ap, ap₂, arith}
 use Rattle.std.specs.Prelude.{if◌then◌else◌}
-use Rattle.std.proofs.lemmas.Bool.{eqb-true, eq-eqb}
+use Rattle.std.proofs.lemmas.Bool.{cases_eq, eq-eqb, eqb-true}
 use Rattle.afdx_send.specs.Agenda.{IsAhead, IsSooner, next_with}
 use Rattle.afdx_send.specs.Nodes.{IsNode, greatest, rank_of, release_in}
 use Rattle.afdx_send.specs.declared.agenda.NextRelease.{NextRelease}
 use Rattle.afdx_send.proofs.AgendaLemmas.{ahead_same}
 
--- what is known of a number of 64 bits
-pub record IsRanked (key : ℕ) (x : Option NextRelease) : Type 0 where
-  pub rank : key ≡ rank_of x
+-- what is known of two numbers of 64 bits
+pub record IsRanked (time place : ℕ) (x : Option NextRelease) : Type 0 where
+  pub rank : time * 0x10000000000000000 + place ≡ rank_of x
   pub small : IsNode x
 
-pub ranked : (key : ℕ) → key < 0x10000000000000000 → IsRanked key (release_in key)
-unfolding release_in
-ranked key below = by (key == greatest) refl
-  where
-    by : (a : Bool) → (key == greatest) ≡ a →
-        IsRanked key (if a then None else Some (next_with (key % 4096) (key / 4096)))
-    by true last = record { rank = eqb-true key greatest last; small = tt }
-    by false more =
-        let other : key ≡ greatest → ⊥ = λ e. let g = eq-eqb key greatest e in absurd (cc (g, more)) in
-        let less : key < greatest = omega (arith, below, other) in
-        let whole : key ≡ key / 4096 * 4096 + key % 4096 = omega arith in
-        let place : key % 4096 < 4096 = omega arith in
-        let sum : key / 4096 * 4096 + key % 4096 < greatest = omega (arith, less, whole) in
-        record { rank = whole; small = (place, sum) }
-
--- ---- the release that a number says
-
-module _ (key : ℕ) where
-  pub in_none : key ≡ greatest → release_in key ≡ None
-  unfolding release_in
-  in_none is = ap (λ (b : Bool). if b then None else Some (next_with (key % 4096) (key / 4096)))
-      (eq-eqb key greatest is)
-
-  more : (key ≡ greatest → ⊥) → (key == greatest) ≡ false
-  more other = by (key == greatest) refl
+module _ (time place : ℕ) (t : time < 0x10000000000000000) (p : place < 0x10000000000000000) where
+  some_ranked : (time ≡ greatest → place ≡ greatest → ⊥) → IsRanked time place (Some (next_with place time))
+  some_ranked other = record { rank = refl; small = (p, below) }
     where
-      by : (b : Bool) → (key == greatest) ≡ b → b ≡ false
-      by true is = absurd (other (eqb-true key greatest is))
-      by false is = refl
+      below : time * 0x10000000000000000 + place < 0xffffffffffffffffffffffffffffffff
+      below = elim (cases_eq time greatest) [
+        | inl last ↦ elim (cases_eq place greatest) [
+          | inl least ↦ absurd (other last least)
+          | inr less ↦ omega (arith, t, p, less)
+        ]
+        | inr less ↦ omega (arith, t, p, less)
+      ]
 
-  pub in_some : (key ≡ greatest → ⊥) → release_in key ≡ Some (next_with (key % 4096) (key / 4096))
+  pub ranked : IsRanked time place (release_in time place)
   unfolding release_in
-  in_some other = ap (λ (b : Bool). if b then None else Some (next_with (key % 4096) (key / 4096))) (more other)
+  ranked = by (time == greatest) refl (place == greatest) refl
+    where
+      by : (a : Bool) → (time == greatest) ≡ a → (b : Bool) → (place == greatest) ≡ b →
+          IsRanked time place (if a && b then None else Some (next_with place time))
+      by true last true least =
+          record {
+            rank = (let e = eqb-true time greatest last in
+                let f = eqb-true place greatest least in omega (arith, e, f));
+            small = tt;
+          }
+      by true last false more = some_ranked (λ _ f. let g = eq-eqb place greatest f in absurd (cc (g, more)))
+      by false more b is = some_ranked (λ e _. let g = eq-eqb time greatest e in absurd (cc (g, more)))
 
-quotient : (time place : ℕ) → place < 4096 → (time * 4096 + place) / 4096 ≡ time
-quotient time place small = omega (arith, small)
+-- ---- the release that two numbers say
 
-rest : (time place : ℕ) → place < 4096 → (time * 4096 + place) % 4096 ≡ place
-rest time place small = omega (arith, small)
+module _ (time place : ℕ) where
+  pub in_none : (time == greatest && place == greatest) ≡ true → release_in time place ≡ None
+  unfolding release_in
+  in_none is = ap (λ (b : Bool). if b then None else Some (next_with place time)) is
 
-pub in_leaf : (time place : ℕ) → place < 4096 → time ≤ 1000032768000000
-    → release_in (time * 4096 + place) ≡ Some (next_with place time)
-in_leaf time place small early =
-    in_some (time * 4096 + place) (λ is. omega (arith, is, small, early))
-    ∙ ap₂ (λ (n m : ℕ). Some (next_with m n)) (quotient time place small) (rest time place small)
+  pub in_some : (time == greatest && place == greatest) ≡ false → release_in time place ≡ Some (next_with place time)
+  unfolding release_in
+  in_some is = ap (λ (b : Bool). if b then None else Some (next_with place time)) is
 
-pub in_last : release_in greatest ≡ None
-in_last = in_none greatest refl
+  pub in_leaf : place < 4096 → release_in time place ≡ Some (next_with place time)
+  in_leaf small = in_some (by (time == greatest) (place == greatest) refl)
+    where
+      by : (a b : Bool) → (place == greatest) ≡ b → (a && b) ≡ false
+      by true true is = absurd (let e = eqb-true place greatest is in omega (arith, e, small))
+      by true false is = refl
+      by false b is = refl
+
+pub in_last : release_in greatest greatest ≡ None
+in_last = in_none greatest greatest refl
 
 -- ---- by their ranks
 

@@ -293,22 +293,15 @@ pub record IsInLimits (line : SystemLink) (time : ℕ) : Type 0 where
   pub gap : line.regulator.bag ≤ 128000000
   pub limit : time ≤ 1000032768000000
 
--- no gap is longer than 128 ms
-gap_limit : (line : SystemLink) (l : LinkRow) (n : ℕ) (ss : List Submission) (rs : List Release) → IsLink n l
-    → LineStands line l ss rs → line.regulator.bag ≤ 128000000
-gap_limit line l n ss rs lawful st =
-    let gap = is_gap l.bag_ms lawful.bag_ms in
-    let most = mul_most 1 (128 / l.bag_ms) l.bag_ms gap.often in
-    let whole = gap.whole in
-    let is = st.is_line.bag in
-    omega arith
-
 pub in_limits : (w : SenderState) (h : SenderHistory) (time place : ℕ) (line : SystemLink) → StandsFor w h
     → IsDueLine w time place line → IsInLimits line time
 in_limits w h time place line st d =
     let k = line_at w h st place line d.has in
-    let small = gap_limit line k.row k.systems (own_submissions h.taken place) (own place st.released)
-    k.lawful k.stands in
+    let gap = is_gap k.row.bag_ms k.lawful.bag_ms in
+    let most = mul_most 1 (128 / k.row.bag_ms) k.row.bag_ms gap.often in
+    let whole = gap.whole in
+    let is = k.stands.is_line.bag in
+    let small : line.regulator.bag ≤ 128000000 = omega arith in
     record {
       gap = small;
       limit =
@@ -316,29 +309,6 @@ in_limits w h time place line st d =
           (limited line.regulator (own_submissions h.taken place) (own place st.released) time
           k.stands.regulates k.stands.timely d.due);
     }
-
--- so is what a line releases next
-pub next_limit : (line : SystemLink) (l : LinkRow) (n : ℕ) (ss : List Submission) (rs : List Release) → IsLink n l
-    → LineStands line l ss rs → IfSome (next_time_of line.regulator) (λ t. t ≤ 1000032768000000)
-next_limit line l n ss rs lawful st = by (next_time_of line.regulator) refl
-  where
-    by : (o : Option ℕ) → next_time_of line.regulator ≡ o → IfSome o (λ t. t ≤ 1000032768000000)
-    by None e = tt
-    by (Some t) e = time_limit line.regulator t (gap_limit line l n ss rs lawful st)
-        (limited line.regulator ss rs t st.regulates st.timely e)
-
--- after a release, too
-pub released_limit : (w : SenderState) (h : SenderHistory) (time place : ℕ) (line line' : SystemLink) (f : Frame)
-    → StandsFor w h → slice_get w.lines.items place ≡ Some line
-    → ((l : LinkRow) (ss : List Submission) (rs : List Release) → LineStands line l ss rs
-    → LineReleases line l ss rs time f line') →
-    IfSome (next_time_of line'.regulator) (λ t. t ≤ 1000032768000000)
-released_limit w h time place line line' f st has releases =
-    let a = line_at w h st place line has in
-    let ss = own_submissions h.taken place in
-    let rs = own place st.released in
-    let k = releases a.row ss rs a.stands in
-    next_limit line' a.row a.systems ss (k.r ∷ rs) a.lawful k.stands
 
 frame_is : (f : Frame) (vl least number : ℕ) (m : Message) → f.vl ≡ vl → f.least ≡ least
     → f.number ≡ number → f.message ≡ m → f ≡ numbered_frame vl least number m.udp m.payload

@@ -1,10 +1,9 @@
 //! The soonest of several releases, found by a tournament.
 
-ghost use Rattle.std.specs.Prelude.{◌≡◌, ℕ, ◌+◌, ◌*◌, ◌<◌, ◌≤◌, ◌↔◌, IsTrue, false, List, Option, Some, None, IfOk, IfSome, MatchOption, option_map, length, replicate, slice_set, vec_len};
+ghost use Rattle.std.specs.Prelude.{◌≡◌, ℕ, ◌+◌, ◌*◌, ◌<◌, ◌≤◌, ◌↔◌, ◌==◌, ◌&&◌, IsTrue, false, List, Option, Some, None, IfOk, MatchOption, option_map, length, replicate, slice_set, vec_len};
 ghost use Rattle.afdx_config.specs.Reading.{most_links};
-ghost use Rattle.afdx_port.specs.Times.{latest_put};
 ghost use Rattle.afdx_send.specs.Agenda.{IsSooner, IsPlayed, IsSoonest, NoneBefore, nexts, next_with};
-ghost use Rattle.afdx_send.specs.Nodes.{IsNode, rank_of};
+ghost use Rattle.afdx_send.specs.Nodes.{IsNode, greatest, rank_of};
 
 use std::alloc::{AllocError, Global};
 use std::marker::Model;
@@ -16,14 +15,11 @@ pub(crate) struct NextRelease {
     pub(crate) place: usize,
 }
 
-/// So many places stand behind a time.
-const PLACES: u64 = 4096;
-
-/// A node: when a link's next release is, or that it has none, as one number. The greatest says
-/// that there is none; else the last 12 bits are the place, and those before them the time.
+/// A node: when a link's next release is, or that it has none. Then both numbers are the greatest.
 #[derive(Debug, Drop)]
 pub(crate) struct Node {
-    key: u64,
+    time: u64,
+    place: usize,
 }
 
 impl Model for Node {
@@ -34,7 +30,7 @@ impl Model for Node {
 
     ghost use Rattle.afdx_send.specs.Nodes.{release_in};
 
-    ghost view = { λ n. release_in n.key };
+    ghost view = { λ n. release_in n.time n.place };
 }
 
 /// When each link's next release is, kept so that the soonest of all is at hand: a tournament.
@@ -48,12 +44,20 @@ pub(crate) struct ReleaseAgenda {
     nodes: Vec<Node>,
 }
 
-/// The number itself, which has 64 bits.
-fn number(key: u64) -> u64
-    ensures same { result ≡ key }
-    ensures fits { key < 0x10000000000000000 }
+/// A time with a place behind it.
+fn joined(time: u64, place: usize) -> u128
+    ensures sum { result ≡ time * 0x10000000000000000 + place }
+    ensures time { time < 0x10000000000000000 }
+    ensures place { place < 0x10000000000000000 }
 {
-    key
+    u128::from(time) * 0x1_0000_0000_0000_0000 + place as u128
+}
+
+/// Whether these two numbers say that there is no release.
+fn is_none(time: u64, place: usize) -> bool
+    ensures { result ≡ (time == greatest && place == greatest) }
+{
+    time == u64::MAX && place == usize::MAX
 }
 
 impl Node {
@@ -61,34 +65,40 @@ impl Node {
     fn none() -> Node
         ensures { result ≡ None }
     {
-        Node { key: u64::MAX }
+        Node {
+            time: u64::MAX,
+            place: usize::MAX,
+        }
     }
 
     /// What it goes by.
-    fn rank(&self) -> u64
+    fn rank(&self) -> u128
         ensures rank { result ≡ rank_of self.now }
         ensures small { IsNode self.now }
     {
-        number(self.key)
+        joined(self.time, self.place)
     }
 
     /// Another of the same.
     fn again(&self) -> Node
         ensures { result ≡ self.now }
     {
-        Node { key: self.key }
+        Node {
+            time: self.time,
+            place: self.place,
+        }
     }
 
     /// The release, if there is one.
     fn release(&self) -> Option<NextRelease>
         ensures { result ≡ self.now }
     {
-        if self.key == u64::MAX {
+        if is_none(self.time, self.place) {
             return None;
         }
         Some(NextRelease {
-            time: self.key / PLACES,
-            place: (self.key % PLACES) as usize,
+            time: self.time,
+            place: self.place,
         })
     }
 }
@@ -111,14 +121,11 @@ fn is_same(a: &Node, b: &Node) -> bool
 
 /// The node of a link.
 fn leaf(time: Option<u64>, place: usize) -> Node
-    requires place { place < most_links }
-    requires limit { IfSome time (λ t. t ≤ latest_put) }
+    requires { place < most_links }
     ensures { result ≡ option_map (next_with place) time }
 {
     match time {
-        Some(time) => Node {
-            key: time * PLACES + place as u64,
-        },
+        Some(time) => Node { time, place },
         None => Node::none(),
     }
 }
@@ -155,7 +162,6 @@ impl ReleaseAgenda {
     pub(crate) fn set(&mut self, place: usize, time: Option<u64>)
         requires played { IsPlayed self.old }
         requires place { place < self.old.count }
-        requires limit { IfSome time (λ t. t ≤ latest_put) }
         ensures played { IsPlayed self.new }
         ensures set { nexts self.new ≡ slice_set (nexts self.old) place time }
         ensures count { self.new.count ≡ self.old.count }

@@ -175,8 +175,7 @@ impl SenderState {
     }
 
     /// The last time used is this one, and what leaves the port next is ready, if it leaves by
-    /// then. (A call of its own: where nothing is left to be done, it isn't made.)
-    #[inline(never)]
+    /// then.
     fn move_to(&mut self, until: u64)
         requires sound { IsSenderSound self.old }
         requires clock { self.old.clock ≤ until }
@@ -196,7 +195,6 @@ impl SenderState {
 
     /// Makes ready what leaves the port next, if it leaves by this time. Where nothing is left to
     /// be done until then, it is quick.
-    #[inline(always)]
     fn prepare(&mut self, until: u64)
         requires sound { IsSenderSound self.old }
         requires knows { KnowsIdle self.old }
@@ -269,12 +267,8 @@ impl SenderState {
         due_is_next::<Released>();
         emissions_are_lawful();
         self.prepare(until);
-        if self.ready.is_none() {
-            return Ok(None);
-        }
         let Some(left) = self.ready.take() else {
-            // Never: one is ready.
-            unreachable!();
+            return Ok(None);
         };
         let rooms = (self.frame_rooms.take(), self.frame_rooms.take());
         match self.emission(&left, rooms) {

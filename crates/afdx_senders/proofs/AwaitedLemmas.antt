@@ -1,17 +1,34 @@
 -- Which moment comes first.
-use Rattle.std.proofs.Common.{◌≡◌, ◌≤◌, ◌<◌, ◌∙◌, ◌∷◌, [], ◌++◌, ℕ, List, inr, sym, subst, arith, Option, Some, None, false}
-use Rattle.std.proofs.Common.{IfNone, IfSome, append_assoc, length}
-use Rattle.std.proofs.lemmas.List.Elements.{All-append, All-head, All-nil, All-push, All-tail}
-use Rattle.std.proofs.lemmas.List.Elements.{All-weaker}
-use Rattle.std.proofs.lemmas.List.Sorted.{Contains-permutation, IsPermutation-append_right, IsPermutation-middle}
-use Rattle.std.proofs.lemmas.List.Sorted.{IsPermutation-sym, IsPermutation-trans, length_permutation}
+use Rattle.std.proofs.Common.{◌≡◌, ◌≤◌, ◌∙◌, ◌∷◌, ℕ, List, inr, sym, subst, arith, Option, Some, None, false, IfNone, IfSome}
+use Rattle.std.proofs.lemmas.Bool.{le-ltb, ltb-false}
+use Rattle.std.proofs.lemmas.Bool.Decides.{nat_tests}
+use Rattle.std.proofs.lemmas.List.Elements.{All-from_recursion, All-weaker}
+use Rattle.std.proofs.lemmas.List.Sorted.{Contains-permutation}
 use Rattle.std.proofs.lemmas.Option.{same_Some}
+use Rattle.std.specs.BinaryHeap.{IsHeap, IsUpperBound, PopsGreatest}
 use Rattle.std.specs.List.{Contains}
 use Rattle.std.specs.List.Sorted.{IsPermutation}
+use Rattle.std.specs.Ordering.{is_lt, nat_cmp}
 use Rattle.afdx_law_bounds.proofs.ListLemmas.{contains_head, contains_tail}
-use Rattle.afdx_senders.specs.Awaited.{AreRising, AreUpTo, AwaitsToo, IsNoneBefore, awaited}
+use Rattle.afdx_senders.specs.Awaited.{AwaitsToo, IsNoneBefore, awaited, by_moment}
 use Rattle.afdx_senders.specs.Order.{is_moment_before}
 use Rattle.afdx_senders.specs.declared.agenda.DueSource.{DueSource}
+
+no_sooner : (m n : ℕ) → is_lt (nat_cmp n m) ≡ false → m ≤ n
+no_sooner m n h = grind (arith, nat_tests)
+
+-- what is no sooner than a moment that isn't before a time isn't before it
+not_sooner : (before : Option ℕ) (m n : ℕ) → m ≤ n → is_moment_before before m ≡ false
+    → is_moment_before before n ≡ false
+not_sooner None m n less h = h
+not_sooner (Some time) m n less h = le-ltb n time (omega (arith, less, ltb-false m time h))
+
+pub none_sooner : (before : Option ℕ) (x : DueSource) (xs : List DueSource) → IsUpperBound by_moment x xs →
+    is_moment_before before x.moment ≡ false → IsNoneBefore before xs
+none_sooner before x xs top h =
+    All-weaker (λ y. is_lt (nat_cmp y.moment x.moment) ≡ false) (λ y. is_moment_before before y.moment ≡ false)
+    (λ y k. not_sooner before x.moment y.moment (no_sooner x.moment y.moment k) h) xs
+    (All-from_recursion (λ y. is_lt (nat_cmp y.moment x.moment) ≡ false) xs top)
 
 -- one is put
 pub awaits_pushed : (place m : ℕ) (before after : Option ℕ) (old new : List DueSource) → after ≡ Some m →
@@ -25,68 +42,8 @@ awaits_pushed place m before after old new is moved =
           (Contains-permutation (x ∷ old) new x moved (contains_head x old)));
     }
 
--- ---- those whose moments rise, and those that are late
-
--- one more is put behind all
-rising_pushed : (xs : List DueSource) (x : DueSource) → AreRising xs → AreUpTo xs x.moment → AreRising (xs ++ x ∷ [])
-rising_pushed [] x h a = (All-nil (λ y. x.moment ≤ y.moment), tt)
-rising_pushed (y ∷ xs) x h a = (
-  All-push (λ z. y.moment ≤ z.moment) xs x h.0 (All-head (λ z. z.moment ≤ x.moment) y xs a),
-  rising_pushed xs x h.1 (All-tail (λ z. z.moment ≤ x.moment) y xs a),
-)
-
-pub rising_more : (xs : List DueSource) (x : DueSource) (newest : ℕ) → newest ≤ x.moment → AreRising xs
-    → AreUpTo xs newest → AreRising (xs ++ x ∷ []) × AreUpTo (xs ++ x ∷ []) x.moment
-rising_more xs x newest le rising up =
-    let behind : AreUpTo xs x.moment = All-weaker (λ y. y.moment ≤ newest) (λ y. y.moment ≤ x.moment)
-    (λ y k. omega (arith, k, le)) xs up in
-    (rising_pushed xs x rising behind, All-push (λ z. z.moment ≤ x.moment) xs x behind (omega arith))
-
--- the first is taken
-pub rising_taken : (x : DueSource) (xs ys : List DueSource) (newest : ℕ) → AreRising xs → AreUpTo xs newest
-    → xs ≡ x ∷ ys → AreRising ys × AreUpTo ys newest
-rising_taken x xs ys newest rising up is =
-    let rising' : AreRising (x ∷ ys) = subst (λ (zs : List DueSource). AreRising zs) is rising in
-    let up' : AreUpTo (x ∷ ys) newest = subst (λ (zs : List DueSource). AreUpTo zs newest) is up in
-    (rising'.1, All-tail (λ z. z.moment ≤ newest) x ys up')
-
--- one more is awaited in either place
-pub awaits_queued : (place m : ℕ) (before after : Option ℕ) (queue late : List DueSource) → after ≡ Some m
-    → AwaitsToo place before after (queue ++ late) ((queue ++ awaited m place ∷ []) ++ late)
-awaits_queued place m before after queue late is =
-    let x : DueSource = awaited m place in
-    awaits_pushed place m before after (queue ++ late) ((queue ++ x ∷ []) ++ late) is
-    (subst (λ (ys : List DueSource). IsPermutation (x ∷ (queue ++ late)) ys) (sym (append_assoc queue (x ∷ []) late))
-    (IsPermutation-sym (queue ++ x ∷ late) (x ∷ (queue ++ late)) (IsPermutation-middle queue x late)))
-
-pub awaits_late : (place m : ℕ) (before after : Option ℕ) (queue late more : List DueSource) → after ≡ Some m
-    → IsPermutation (awaited m place ∷ late) more
-    → AwaitsToo place before after (queue ++ late) (queue ++ more)
-awaits_late place m before after queue late more is moved =
-    let x : DueSource = awaited m place in
-    awaits_pushed place m before after (queue ++ late) (queue ++ more) is
-    (IsPermutation-trans (x ∷ (queue ++ late)) (queue ++ x ∷ late) (queue ++ more)
-    (IsPermutation-sym (queue ++ x ∷ late) (x ∷ (queue ++ late)) (IsPermutation-middle queue x late))
-    (IsPermutation-append_right queue (x ∷ late) more moved))
-
--- one that was late is taken, or none lies before the time
-pub late_taken : (queue more late rest : List DueSource) (taken : Option DueSource) → more ≡ queue
-    → IfSome taken (λ x. IsPermutation late (x ∷ rest))
-    → IfSome taken (λ x. IsPermutation (queue ++ late) (x ∷ (more ++ rest)))
-late_taken queue more late rest None same moved = tt
-late_taken queue more late rest (Some x) same moved =
-    subst (λ (zs : List DueSource). IsPermutation (queue ++ late) (x ∷ (zs ++ rest))) (sym same)
-    (IsPermutation-trans (queue ++ late) (queue ++ x ∷ rest) (x ∷ (queue ++ rest))
-    (IsPermutation-append_right queue late (x ∷ rest) moved) (IsPermutation-middle queue x rest))
-
-pub fewer_left : (xs ys : List DueSource) (taken : Option DueSource)
-    → IfSome taken (λ x. IsPermutation xs (x ∷ ys)) → IfSome taken (λ x. length ys < length xs)
-fewer_left xs ys None moved = tt
-fewer_left xs ys (Some x) moved = omega (arith, length_permutation xs (x ∷ ys) moved)
-
-pub none_in_both : (before : Option ℕ) (queue late : List DueSource) (taken : Option DueSource)
-    → IsNoneBefore before queue → IfNone taken (IsNoneBefore before late)
-    → IfNone taken (IsNoneBefore before (queue ++ late))
-none_in_both before queue late (Some x) first second = tt
-none_in_both before queue late None first second =
-    All-append (λ x. is_moment_before before x.moment ≡ false) queue late first second
+-- one is taken, or nothing changes
+pub heap_popped : (L : Type 0) (xs ys : List DueSource) (taken : Option DueSource) → IsHeap by_moment xs
+    → IfSome taken (λ x. PopsGreatest by_moment xs x ys) → IfNone taken ((ys ≡ xs) × L) → IsHeap by_moment ys
+heap_popped L xs ys None known heap same = subst (λ (zs : List DueSource). IsHeap by_moment zs) (sym same.0) known
+heap_popped L xs ys (Some x) known heap same = (heap known).0

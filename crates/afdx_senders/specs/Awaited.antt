@@ -1,5 +1,5 @@
 -- When frames of sources wait no longer.
-use Rattle.std.specs.Prelude.{◌≡◌, ℕ, ◌≤◌, ◌==◌, Bool, true, false, Option, Some, ◌⊎◌, List, [], ◌∷◌, ⊤}
+use Rattle.std.specs.Prelude.{◌≡◌, ℕ, ◌==◌, Bool, true, false, Option, Some, ◌⊎◌, List}
 use Rattle.std.specs.List.{All, Contains}
 use Rattle.std.specs.Ordering.{nat_cmp, flip_args, on}
 use Rattle.std.specs.declared.cmp.Ordering.{Ordering}
@@ -19,15 +19,6 @@ is_same_moment = on moment_of ◌==◌
 
 abbrev pub by_moment : DueSource → DueSource → Ordering
 by_moment = flip_args (on moment_of nat_cmp)
-
--- moments rise along these
-abbrev pub AreRising : List DueSource → Type 0
-AreRising [] = ⊤
-AreRising (x ∷ xs) = All (λ y. x.moment ≤ y.moment) xs × AreRising xs
-
--- none of these is of a later moment
-abbrev pub AreUpTo : List DueSource → ℕ → Type 0
-AreUpTo xs newest = All (λ y. y.moment ≤ newest) xs
 
 -- it lies before that time, if there is one
 abbrev pub IsDueBefore : Option ℕ → DueSource → Type 0

@@ -2,19 +2,18 @@
 
 ghost use Rattle.std.specs.Prelude.{◌≡◌, ◌<◌, ◌∷◌, [], All, IfNone, IfSome, OnOk, length};
 ghost use Rattle.std.specs.Prelude.{IsTrue, Some, ◌↔◌};
-ghost use Rattle.std.specs.BinaryHeap.{IsHeap, heap_items};
 ghost use Rattle.std.specs.Cmp.Rules.{comparing};
 ghost use Rattle.std.specs.Cmp.{partial_order_from_own_ties};
 ghost use Rattle.std.specs.List.Sorted.{IsPermutation};
 ghost use Rattle.std.specs.Ordering.{as_partial_cmp};
 ghost use Rattle.std.proofs.Common.{rules};
 ghost use Rattle.afdx_senders.specs.Awaited as spec;
-ghost use Rattle.afdx_senders.specs.Awaited.{AreRising, AwaitsToo, IsDueBefore, IsNoneBefore};
+ghost use Rattle.afdx_senders.specs.Awaited.{AwaitsToo, IsDueBefore, IsNoneBefore};
 
 use crate::found_lines::is_before;
 use std::alloc::{AllocError, Global};
 use std::cmp::Ordering;
-use std::collections::{BinaryHeap, VecDeque};
+use std::collections::BinaryHeap;
 use std::marker::Model;
 
 /// At this moment, in ns, frames of the source at this place wait no longer.
@@ -67,66 +66,20 @@ impl Ord for DueSource {
 /// When frames of sources wait no longer. What is known of it is a list, in any order.
 #[derive(Drop)]
 pub(crate) struct SourceAgenda {
-    /// Those whose moments rise: mostly all do, since frames come by time and wait equally long.
-    queue: VecDeque<DueSource>,
-    /// The moment of the last of these, in ns.
-    newest: u64,
-    /// Those that were put behind one of a later moment.
-    late: BinaryHeap<DueSource>,
+    heap: BinaryHeap<DueSource>,
 }
 
 impl Model for SourceAgenda {
-    ghost use Rattle.std.specs.Prelude.{List, ◌++◌};
+    ghost use Rattle.std.specs.Prelude.{List};
     ghost use Rattle.std.specs.BinaryHeap.{IsHeap, heap_items};
-    ghost use Rattle.afdx_senders.specs.Awaited.{AreRising, AreUpTo, by_moment};
+    ghost use Rattle.afdx_senders.specs.Awaited.{by_moment};
     ghost use Rattle.afdx_senders.specs.declared.agenda.DueSource.{DueSource as Due};
 
     ghost Value = { List Due };
 
-    ghost view = { λ agenda. agenda.queue.items ++ heap_items agenda.late };
+    ghost view = { λ agenda. heap_items agenda.heap };
 
-    ghost invariant = { λ agenda.
-        AreRising agenda.queue.items × AreUpTo agenda.queue.items agenda.newest
-        × IsHeap by_moment (heap_items agenda.late) };
-}
-
-/// Takes out the first of some whose moments rise, if it lies before that time; without a time
-/// whenever it is.
-fn take_rising(queue: &mut VecDeque<DueSource>, before: Option<u64>) -> Option<DueSource>
-    requires rising { AreRising queue.old.items }
-    ensures in_time { IfSome result (IsDueBefore before) }
-    ensures rest { IfSome result (λ x. queue.old.items ≡ x ∷ queue.new.items) }
-    ensures none { IfNone result (IsNoneBefore before queue.old.items) }
-    ensures same { IfNone result (queue.new.items ≡ queue.old.items) }
-{
-    let Some(first) = queue.front() else {
-        return None;
-    };
-    if is_before(first.moment, before) {
-        queue.pop_front()
-    } else {
-        None
-    }
-}
-
-/// Takes out one of the first of some, if it lies before that time; without a time whenever it is.
-fn take_late(late: &mut BinaryHeap<DueSource>, before: Option<u64>) -> Option<DueSource>
-    requires heap { IsHeap spec.by_moment (heap_items late.old) }
-    ensures heap { IsHeap spec.by_moment (heap_items late.new) }
-    ensures in_time { IfSome result (IsDueBefore before) }
-    ensures rest { IfSome result (λ x.
-        IsPermutation (heap_items late.old) (x ∷ heap_items late.new)) }
-    ensures none { IfNone result (IsNoneBefore before (heap_items late.old)) }
-    ensures same { IfNone result (heap_items late.new ≡ heap_items late.old) }
-{
-    let Some(first) = late.peek() else {
-        return None;
-    };
-    if is_before(first.moment, before) {
-        late.pop()
-    } else {
-        None
-    }
+    ghost invariant = { λ agenda. IsHeap by_moment (heap_items agenda.heap) };
 }
 
 impl SourceAgenda {
@@ -135,9 +88,7 @@ impl SourceAgenda {
         ensures { result ≡ [] }
     {
         SourceAgenda {
-            queue: VecDeque::new(alloc),
-            newest: 0,
-            late: BinaryHeap::new(alloc),
+            heap: BinaryHeap::new(alloc),
         }
     }
 
@@ -156,16 +107,12 @@ impl SourceAgenda {
         let Some(moment) = after else {
             return Ok(());
         };
-        if self.newest <= moment {
-            self.newest = moment;
-            self.queue.push_back(DueSource { moment, place })?;
-        } else {
-            self.late.push(DueSource { moment, place })?;
-        }
+        self.heap.push(DueSource { moment, place })?;
         Ok(())
     }
 
-    /// Takes out a moment that lies before that time, if there is one; without a time any.
+    /// Takes out one of the first moments, if it lies before that time; without a time whenever it
+    /// is.
     pub(crate) fn take_before(&mut self, before: Option<u64>) -> Option<DueSource>
         ensures in_time { IfSome result (IsDueBefore before) }
         ensures rest { IfSome result (λ x. IsPermutation self.old (x ∷ self.new)) }
@@ -173,9 +120,13 @@ impl SourceAgenda {
         ensures none { IfNone result (IsNoneBefore before self.old) }
         ensures same { IfNone result (self.new ≡ self.old) }
     {
-        match take_rising(&mut self.queue, before) {
-            Some(due) => Some(due),
-            None => take_late(&mut self.late, before),
+        let Some(first) = self.heap.peek() else {
+            return None;
+        };
+        if is_before(first.moment, before) {
+            self.heap.pop()
+        } else {
+            None
         }
     }
 }

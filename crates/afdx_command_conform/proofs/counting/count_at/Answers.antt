@@ -14,7 +14,7 @@ use Rattle.afdx_command_conform.proofs.counting.count_at.Goals as goal
 
 pub returns-then-is_judged-clause-counted : goal.returns-then-is_judged-clause-counted
 returns-then-is_judged-clause-counted c c' until frames n l at to sight ended has =
-    let t = c.args.sight.now.tables.now in
+    let t = c.args.tables.now in
     let side = c.args.outlet.side in
     let place = c.args.outlet.link in
     let s : ℕ = c.args.outlet.system.0 in
@@ -36,7 +36,7 @@ returns-then-is_judged-clause-counted c c' until frames n l at to sight ended ha
 
 pub returns-else-is_judged-clause-counted : goal.returns-else-is_judged-clause-counted
 returns-else-is_judged-clause-counted c c' until frames n l at to sight ended has =
-    let t = c.args.sight.now.tables.now in
+    let t = c.args.tables.now in
     let side = c.args.outlet.side in
     let port : ℕ = port_of t c.args.outlet.system.0 in
     let judged : is_judged t c'.sight side l port ≡ false =

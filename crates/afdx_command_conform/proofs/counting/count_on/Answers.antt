@@ -15,7 +15,7 @@ loop-link-init c = record {
   exercised = refl;
   counted = λ c' until frames n sight ended has.
       subst (λ m. HasCounted (both_counted n m) c.args.totals.now)
-      (sym (among-none c.args.sight.now.tables.now c' until frames c.args.side))
+      (sym (among-none c.args.tables.now c' until frames c.args.side))
       (has-none n c.args.totals.now has);
 }
 
@@ -26,7 +26,7 @@ loop-link-preserved c = record {
   unseen = c.count_to.ensures.unseen ∙ c.loop-link.invariant.unseen;
   exercised = c.count_to.ensures.exercised ∙ c.loop-link.invariant.exercised;
   counted = λ c' until frames n sight ended has.
-      let t = c.args.sight.now.tables.now in
+      let t = c.args.tables.now in
       let place = c.loop-link.link in
       let l : LinkRow = get_or t.links place blank in
       let at = slice_get-get_or t.links place blank (let test = c.loop-link-test.true in let len =
@@ -42,7 +42,7 @@ loop-link-preserved c = record {
 
 pub returns-clause-counted : goal.returns-clause-counted
 returns-clause-counted c c' until frames n sight ended has =
-    let t = c.args.sight.now.tables.now in
+    let t = c.args.tables.now in
     let test = c.loop-link-test.false in
     let len = c.link_count-link-end.ensures in
     subst (λ ls. HasCounted (both_counted n (counted_among t c' until frames c.args.side ls)) c.loop-link.totals)

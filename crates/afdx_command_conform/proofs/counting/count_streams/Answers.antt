@@ -6,7 +6,7 @@ use Rattle.afdx_command_conform.proofs.counting.count_streams.Goals as goal
 
 pub returns-clause-counted : goal.returns-clause-counted
 returns-clause-counted c c' until frames sight ended has =
-    let t = c.args.sight.now.tables.now in
+    let t = c.args.tables.now in
     let a = counted_among t c' until frames A t.links in
     let b = counted_among t c' until frames B t.links in
     subst (λ n. HasCounted (both_counted n b) c.count_on-2.new.totals) (none-both a)

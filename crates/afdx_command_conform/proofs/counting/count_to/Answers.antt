@@ -16,7 +16,7 @@ loop-rank-init c = record {
   exercised = refl;
   counted = λ c' until frames n row at sight ended has.
       subst (λ m. HasCounted (both_counted n m) c.args.totals.now)
-      (sym (to-none c.args.sight.now.tables.now c' until frames c.args.side row))
+      (sym (to-none c.args.tables.now c' until frames c.args.side row))
       (has-none n c.args.totals.now has);
 }
 
@@ -27,7 +27,7 @@ loop-rank-preserved c = record {
   unseen = c.count_at.ensures.unseen ∙ c.loop-rank.invariant.unseen;
   exercised = c.count_at.ensures.exercised ∙ c.loop-rank.invariant.exercised;
   counted = λ c' until frames n row at sight ended has.
-      let t = c.args.sight.now.tables.now in
+      let t = c.args.tables.now in
       let side = c.args.side in
       let s : ℕ = c.receiver-system.result.0 in
       let rank : ℕ = c.loop-rank.rank in
@@ -50,7 +50,7 @@ loop-rank-preserved c = record {
 
 pub returns-clause-counted : goal.returns-clause-counted
 returns-clause-counted c c' until frames n row at sight ended has =
-    let t = c.args.sight.now.tables.now in
+    let t = c.args.tables.now in
     let mine : link_row c.link.result.now ≡ row = same_Some (link_row c.link.result.now) row (sym c.link.ensures.row
     ∙ at) in
     let count = length-map c.link.result.now.to.items (λ i. i.0) in

@@ -8,7 +8,7 @@ use Rattle.afdx_command_conform.proofs.joining.leave_to.Goals as goal
 
 pub returns : goal.returns
 returns c c' until time given lines l at to by le start all few kept =
-    let t = c.args.rules.now.sight.tables.now in
+    let t = c.args.rules.now.tables.now in
     let is = c.in_ok-key.ensures.key in
     let made = c.in_ok-key.ensures.stands c' until time given lines l at to by kept in
     on-ok (λ k. subst (λ q. AreKept t c' until None time (with_left q (gone_of c.args.frame) given) lines

@@ -8,7 +8,7 @@ use Rattle.afdx_command_conform.proofs.joining.stream_to.Goals as goal
 
 pub returns-in_ok-make_stream-clause-stands : goal.returns-in_ok-make_stream-clause-stands
 returns-in_ok-make_stream-clause-stands c c' until time given lines l at to by kept =
-    let t = c.args.rules.now.sight.tables.now in
+    let t = c.args.rules.now.tables.now in
     let s = c.args.outlet.system.0 in
     let lawful = c.key_at-key.ensures.lawful in
     let here = slice_get-get_or t.systems s no-system c.requires.system in
@@ -21,7 +21,7 @@ returns-in_ok-make_stream-clause-stands c c' until time given lines l at to by k
 
 pub returns-else-not-has_stream-clause-stands : goal.returns-else-not-has_stream-clause-stands
 returns-else-not-has_stream-clause-stands c c' until time given lines l at to by kept =
-    let t = c.args.rules.now.sight.tables.now in
+    let t = c.args.rules.now.tables.now in
     let s = c.args.outlet.system.0 in
     let here = slice_get-get_or t.systems s no-system c.requires.system in (
       subst (λ q. IsStreamOf t q l) (sym c.key_at-key.ensures.key)

@@ -5,7 +5,7 @@ use Rattle.afdx_input_runs.specs.Arrivals.{TakesFrames}
 use Rattle.afdx_input_sources.specs.Claims.{ports_of_one}
 use Rattle.afdx_input_sources.specs.Items.{thing_of}
 use Rattle.afdx_input_sources.specs.Listed.{frames}
-use Rattle.afdx_command_conform.specs.Sight.{Sight, of_tables, sight_of}
+use Rattle.afdx_command_conform.specs.Sight.{of_tables, sight_in}
 use Rattle.afdx_command_conform.proofs.AddedLemmas.{if-some}
 use Rattle.afdx_command_conform.proofs.BegunLemmas.{nothing-early, tells-none}
 use Rattle.afdx_command_conform.proofs.RanLemmas.{answers-memory, run-answers, where-known}
@@ -38,7 +38,7 @@ returns-in_err-judging-clause-answer g c =
 
 pub run_judged-requires-clause-ready : goal.run_judged-requires-clause-ready
 run_judged-requires-clause-ready g c = (
-  (c.of_tables-sight.result.tables.now, choices_of (sight_of c.of_tables-sight.result) c.args.choices.now),
+  (c.args.tables.now, choices_of (sight_in c.args.tables.now c.taps-taps.result) c.args.choices.now),
   tells-none _ _ (g.O.Sink.written c.args.output.now) c.in_ok-judging.ensures,
   λ item. tt,
 )
@@ -66,10 +66,4 @@ returns-clause-answer g c =
     (c.run_judged.ensures.answer k
     (subst (λ p. TellsItems (c.args.tables.now, choices_of (of_tables c.args.tables.now p) c.args.choices.now)
     c.in_ok-judging.judging old old [])
-    c.taps-taps.ensures
-    (subst (λ (o : Sight). TellsItems (c.args.tables.now, choices_of o c.args.choices.now)
-    c.in_ok-judging.judging old old [])
-    c.of_tables-sight.ensures.sees
-    (subst (λ (t : Rows). TellsItems (t, choices_of (sight_of c.of_tables-sight.result) c.args.choices.now)
-    c.in_ok-judging.judging old old [])
-    c.of_tables-sight.ensures.tables (tells-none _ _ old c.in_ok-judging.ensures)))) (λ item. tt))
+    c.taps-taps.ensures (tells-none _ _ old c.in_ok-judging.ensures)) (λ item. tt))

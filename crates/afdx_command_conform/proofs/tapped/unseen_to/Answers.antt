@@ -2,14 +2,14 @@ use Rattle.std.proofs.Common.{◌≡◌, ◌<◌, ◌≤◌, ℕ, length, sym, a
 use Rattle.std.proofs.lemmas.List.{length-map, take_all}
 use Rattle.std.proofs.lemmas.Option.{same_Some}
 use Rattle.afdx_config.specs.Rows.{LinkRow, link_row}
-use Rattle.afdx_command_conform.specs.Sight.{sight_of}
+use Rattle.afdx_command_conform.specs.Sight.{sight_in}
 use Rattle.afdx_command_conform.specs.Tapped.{unseen_to}
 use Rattle.afdx_command_conform.proofs.TappedLemmas.{unseen-next, unseen-none}
 use Rattle.afdx_command_conform.proofs.tapped.unseen_to.Goals as goal
 
 pub loop-rank-init : goal.loop-rank-init
 loop-rank-init c = record {
-  count = λ row at. sym (unseen-none c.args.sight.now.tables.now (sight_of c.args.sight.now) c.args.side row);
+  count = λ row at. sym (unseen-none c.args.tables.now (sight_in c.args.tables.now c.args.taps.now) c.args.side row);
   few = omega arith;
 }
 
@@ -26,7 +26,7 @@ loop-rank-preserved c = record {
       let len = c.len-rank-end.ensures in
       let lt : rank < length row.to = subst (λ (r : LinkRow). rank < length r.to) mine
       (omega (arith, test, len, count)) in
-      let next = unseen-next c.args.sight.now.tables.now (sight_of c.args.sight.now) c.args.side row rank
+      let next = unseen-next c.args.tables.now (sight_in c.args.tables.now c.args.taps.now) c.args.side row rank
       c.receiver-system.result.0
       (c.receiver-system.ensures.is row at) lt in
       omega (arith, before, here, next);
@@ -44,5 +44,5 @@ returns-clause-count c l at =
     let le : length l.to ≤ c.loop-rank.rank = subst (λ (r : LinkRow). length r.to ≤ c.loop-rank.rank) mine
     (omega (arith, test, len, count)) in
     c.loop-rank.invariant.count l at
-    ∙ ap (λ xs. unseen_to c.args.sight.now.tables.now (sight_of c.args.sight.now) c.args.side l xs)
+    ∙ ap (λ xs. unseen_to c.args.tables.now (sight_in c.args.tables.now c.args.taps.now) c.args.side l xs)
     (take_all c.loop-rank.rank l.to le)

@@ -7,15 +7,15 @@ use Rattle.afdx_input_lines.proofs.submission_line.read_fields.Goals as goal
 pub returns-in_default : goal.returns-in_default
 unfolding submission_fields
 returns-in_default c = rw (
-  c.split_long_number-time.ensures.2,
-  rest_is_none c.split_long_number-time.result.1 c.in_default.not-Some,
+  c.split_number-time.ensures.2,
+  rest_is_none c.split_number-time.result.1 c.in_default.not-Some,
 ) refl
 
 pub returns-in_default-rest : goal.returns-in_default-rest
 unfolding submission_fields
 returns-in_default-rest c =
     rw (
-      c.split_long_number-time.ensures.2,
+      c.split_number-time.ensures.2,
       c.in-Some.is,
       c.split_number-vl.ensures.2,
       rest_is_none c.split_number-vl.result.1 c.in_default-rest.not-Some,
@@ -25,7 +25,7 @@ pub returns-in_default-rest-2 : goal.returns-in_default-rest-2
 unfolding submission_fields
 returns-in_default-rest-2 c =
     rw (
-      c.split_long_number-time.ensures.2,
+      c.split_number-time.ensures.2,
       c.in-Some.is,
       c.split_number-vl.ensures.2,
       c.in-Some-rest.is,
@@ -38,7 +38,7 @@ pub returns-in_default-rest-3 : goal.returns-in_default-rest-3
 unfolding submission_fields
 returns-in_default-rest-3 c =
     rw (
-      c.split_long_number-time.ensures.2,
+      c.split_number-time.ensures.2,
       c.in-Some.is,
       c.split_number-vl.ensures.2,
       c.in-Some-rest.is,
@@ -52,7 +52,7 @@ pub returns : goal.returns
 unfolding submission_fields
 returns c =
     rw (
-      c.split_long_number-time.ensures.2,
+      c.split_number-time.ensures.2,
       c.in-Some.is,
       c.split_number-vl.ensures.2,
       c.in-Some-rest.is,
@@ -61,7 +61,7 @@ returns c =
       c.split_number-udp.ensures.2,
       c.in-Some-rest-3.is,
       c.fields_from.ensures,
-      c.split_long_number-time.ensures.1,
+      c.split_number-time.ensures.1,
       c.port_of.ensures,
       c.split_number-vl.ensures.1,
       c.sub_of.ensures,
@@ -69,5 +69,5 @@ returns c =
       c.port_of-2.ensures,
       c.split_number-udp.ensures.1,
     )
-    (submission_five c.split_long_number-time.ensures.0 c.split_number-vl.ensures.0
+    (submission_five c.split_number-time.ensures.0 c.split_number-vl.ensures.0
     c.split_number-sub.ensures.0 c.split_number-udp.ensures.0 c.in-Some-rest-3.digits.now)

@@ -1,6 +1,6 @@
 use Rattle.std.proofs.Common.{rules, inl, inr, sym, ◌∙◌, subst}
 use Rattle.afdx_input_sources.proofs.FaultLemmas.{is-other, is-recorded}
-use Rattle.afdx_input_sources.proofs.StepLemmas.{is-reading, known, took-fault, took-one, took-none, ends, stops}
+use Rattle.afdx_input_sources.proofs.StepLemmas.{is-reading, took-one, took-none, ends, stops}
 use Rattle.afdx_input_sources.proofs.StepLemmas.{took-less, took-no-more, took-step, ends-less}
 use Rattle.afdx_input_sources.proofs.ordered.read_one.Goals as goal
 
@@ -11,8 +11,8 @@ returns-in-Ok-Given-clause-given g c start past h ok =
     let r = is-reading S.current S.Gave S.Ended S.Stopped start old c.args.input.now past c.requires.reading h in
     let item = c.in-Ok-Given.ensures.item start r.read r.gave_them (search rules) in
     let k = took-one S.current S.Gave S.Ended S.Stopped start (record old { source = c.next.new.self })
-    c.next.new.input past c.requires.reading r.read r.are_forward r.latest r.newest r.are_held c.requires.none_due
-    item.0 item.1 c.take_in.new.ordered
+    c.next.new.input past c.requires.reading r.read r.are_forward r.latest r.are_held item.0 item.1
+    c.take_in.new.ordered
     (rw ok at c.take_in.ensures) in (k.gave_them, k.follows)
 
 pub returns-in-Ok-Given-clause-none : goal.returns-in-Ok-Given-clause-none
@@ -22,19 +22,9 @@ returns-in-Ok-Given-clause-none g c start past h ok =
     let r = is-reading S.current S.Gave S.Ended S.Stopped start old c.args.input.now past c.requires.reading h in
     let item = c.in-Ok-Given.ensures.item start r.read r.gave_them (search rules) in
     took-none S.current S.Gave S.Ended S.Stopped start (record old { source = c.next.new.self })
-    c.next.new.input past c.requires.reading r.read r.are_forward r.latest r.newest r.are_held c.requires.none_due
-    item.0 item.1 c.take_in.new.ordered
+    c.next.new.input past c.requires.reading r.read r.are_forward r.latest r.are_held item.0 item.1
+    c.take_in.new.ordered
     (rw ok at c.take_in.ensures)
-
-pub returns-in-Ok-Given-clause-stop : goal.returns-in-Ok-Given-clause-stop
-returns-in-Ok-Given-clause-stop g c start past h =
-    let S = g.S.Source in
-    let old = c.args.ordered.now in
-    let r = is-reading S.current S.Gave S.Ended S.Stopped start old c.args.input.now past c.requires.reading h in
-    let item = c.in-Ok-Given.ensures.item start r.read r.gave_them (search rules) in
-    took-fault S.current S.Gave S.Ended S.Stopped start (record old { source = c.next.new.self })
-    c.next.new.input past c.requires.reading r.read r.are_forward r.latest r.newest r.are_held c.requires.none_due
-    item.0 item.1 c.take_in.new.ordered c.take_in.result c.take_in.ensures
 
 pub returns-in-Ok-Given-clause-less : goal.returns-in-Ok-Given-clause-less
 returns-in-Ok-Given-clause-less g c ok =
@@ -60,7 +50,7 @@ returns-in-Ok-Ended-clause-none g c start past h ok =
     let old = c.args.ordered.now in
     let r = is-reading S.current S.Gave S.Ended S.Stopped start old c.args.input.now past c.requires.reading h in
     ends S.current S.Gave S.Ended S.Stopped start (record old { source = c.next.new.self }) c.next.new.input past r.read
-    r.are_forward r.latest r.newest r.are_held (c.in-Ok-Ended.ensures.end start r.read r.gave_them (search rules))
+    r.are_forward r.latest r.are_held (c.in-Ok-Ended.ensures.end start r.read r.gave_them (search rules))
 
 pub returns-in-Ok-Ended-clause-no_more : goal.returns-in-Ok-Ended-clause-no_more
 returns-in-Ok-Ended-clause-no_more g c ok = ends-less g.S.Source.left_of c.args.ordered.now c.requires.reading
@@ -75,7 +65,7 @@ returns-in-Ok-clause-none g c start past h ok =
     (sym c.recorded_fault.ensures ∙ c.in-Ok.is) in
     stops S.current S.Gave S.Ended S.Stopped start
     (record old { source = c.next.new.self }) c.next.new.input past r.read
-    r.are_forward r.latest r.newest r.are_held c.in-Ok.fault
+    r.are_forward r.latest r.are_held c.in-Ok.fault
     (rw is at c.in-Err.ensures.stop start r.read r.gave_them)
 
 pub returns-in-Ok-clause-no_more : goal.returns-in-Ok-clause-no_more
@@ -95,6 +85,5 @@ returns-in-Err-recorded_fault-clause-stop g c start past h =
       other = is.1;
       stopped_so = subst (λ f. S.Stopped start c.next.new.self c.next.new.input r.read f) is.0
           (c.in-Err.ensures.stop start r.read r.gave_them);
-      known = known S.current S.Gave S.Ended S.Stopped start (record old { source = c.next.new.self })
-          c.next.new.input past r.read r.are_forward r.latest r.newest r.are_held c.requires.none_due;
+      known = r.are_held.handed;
     }))

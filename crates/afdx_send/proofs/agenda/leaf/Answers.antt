@@ -1,10 +1,9 @@
-use Rattle.std.proofs.Common.{ap, option_map, subst, sym, ◌∙◌, ◌≤◌, ℕ, Option, IfSome}
+use Rattle.std.proofs.Common.{ap, option_map, sym, ◌∙◌}
 use Rattle.afdx_send.specs.Agenda.{next_with}
 use Rattle.afdx_send.proofs.NodeLemmas.{in_leaf}
 use Rattle.afdx_send.proofs.agenda.leaf.Goals as goal
 
 pub returns-in-Some : goal.returns-in-Some
 returns-in-Some c =
-    in_leaf c.in-Some.time c.args.place c.requires.place
-    (subst (λ (o : Option ℕ). IfSome o (λ t. t ≤ 1000032768000000)) c.in-Some.is c.requires.limit)
+    in_leaf c.in-Some.time c.args.place c.requires
     ∙ ap (λ o. option_map (next_with c.args.place) o) (sym c.in-Some.is)

@@ -20,7 +20,7 @@ use Rattle.afdx_command_conform.proofs.judging.JudgingRun.take.Goals as goal
 
 pub returns-then-not-is_in_time-clause-counted : goal.returns-then-not-is_in_time-clause-counted
 returns-then-not-is_in_time-clause-counted c = λ frames before.
-    let t = c.args.self.now.streams.sight.tables.now in
+    let t = c.args.self.now.streams.tables.now in
     let k = choices_in c.args.self.now in
     let x = frame_of (item_of c.args.n c.args.seen.now c.args.message.now) in
     missed-next t k x frames c.args.self.now.left_out c.args.self.now.left_out false
@@ -30,7 +30,7 @@ returns-then-not-is_in_time-clause-counted c = λ frames before.
 
 pub returns-then-is_passed-clause-counted : goal.returns-then-is_passed-clause-counted
 returns-then-is_passed-clause-counted c = λ frames before.
-    let t = c.args.self.now.streams.sight.tables.now in
+    let t = c.args.self.now.streams.tables.now in
     let k = choices_in c.args.self.now in
     let x = frame_of (item_of c.args.n c.args.seen.now c.args.message.now) in
     missed-next t k x frames c.args.self.now.left_out c.saturating_add-self.result true
@@ -44,7 +44,7 @@ returns-then-is_passed-clause-counted c = λ frames before.
 
 pub returns-in-Came-clause-counted : goal.returns-in-Came-clause-counted
 returns-in-Came-clause-counted c = λ frames before.
-    let t = c.args.self.now.streams.sight.tables.now in
+    let t = c.args.self.now.streams.tables.now in
     let k = choices_in c.args.self.now in
     let x = frame_of (item_of c.args.n c.args.seen.now c.args.message.now) in
     on-ok c.came.result _
@@ -59,7 +59,7 @@ returns-in-Came-clause-counted c = λ frames before.
 
 pub returns-in-Left-clause-counted : goal.returns-in-Left-clause-counted
 returns-in-Left-clause-counted c = λ frames before.
-    let t = c.args.self.now.streams.sight.tables.now in
+    let t = c.args.self.now.streams.tables.now in
     let k = choices_in c.args.self.now in
     let x = frame_of (item_of c.args.n c.args.seen.now c.args.message.now) in
     on-ok c.left.result _
@@ -74,7 +74,7 @@ returns-in-Left-clause-counted c = λ frames before.
 
 pub returns-then-length-gt-MOST_BYTES-clause-counted : goal.returns-then-length-gt-MOST_BYTES-clause-counted
 returns-then-length-gt-MOST_BYTES-clause-counted c = λ frames before.
-    let t = c.args.self.now.streams.sight.tables.now in
+    let t = c.args.self.now.streams.tables.now in
     let k = choices_in c.args.self.now in
     let x = frame_of (item_of c.args.n c.args.seen.now c.args.message.now) in
     missed-next t k x frames c.args.self.now.left_out c.args.self.now.left_out false

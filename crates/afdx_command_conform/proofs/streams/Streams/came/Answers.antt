@@ -1,4 +1,4 @@
-use Rattle.std.proofs.Common.{◌∷◌, ◌≡◌, ℕ, ◌+◌, ◌<◌, ◌≤◌, List, true, false, length, get_or, map, take, None, Some, refl, sym, ap, ◌∙◌, subst, arith}
+use Rattle.std.proofs.Common.{Bor, ◌∷◌, ◌≡◌, ℕ, ◌+◌, ◌<◌, ◌≤◌, List, true, false, length, get_or, map, take, None, Some, refl, sym, ap, ap₂, ◌∙◌, subst, arith}
 use Rattle.std.proofs.lemmas.List.{length-map, take_all}
 use Rattle.std.specs.Prelude.{IfSome}
 use Rattle.std.proofs.lemmas.Option.{same_Some, slice_get-get_or}
@@ -13,14 +13,14 @@ use Rattle.afdx_conform.specs.LeewayOf.{leeway_of}
 use Rattle.afdx_input_lines.specs.declared.role.Role.TheVariants.{Came}
 use Rattle.afdx_frame.specs.Parts.{bytes_of}
 use Rattle.afdx_command_conform.specs.Choices.{counts}
-use Rattle.afdx_command_conform.specs.Sight.{Sight, sight_of}
+use Rattle.afdx_command_conform.specs.Sight.{Sight, sight_in}
 use Rattle.afdx_command_conform.specs.Tapped.{is_heard}
+use Rattle.afdx_input_sources.specs.declared.taps.Taps as code
 use Rattle.afdx_command_conform.specs.Frames.{frame_with, place_named}
 use Rattle.afdx_command_conform.specs.Keeping.{AreKept, Given, came_to, given_of, with_came}
 use Rattle.afdx_command_conform.specs.Keys.{key_with}
 use Rattle.afdx_command_conform.specs.Standing.{StreamsStand}
 use Rattle.afdx_command_conform.specs.declared.key.Key.{Key}
-use Rattle.afdx_command_conform.specs.declared.sight.Sight as code
 use Rattle.afdx_command_conform.proofs.GivenLemmas.{blank, came-times}
 use Rattle.afdx_command_conform.proofs.JoinLemmas.{any-in, came-few, came-start, come-first, come-next, come-past, counted-behind, join-came, join-unheard, join-unnamed}
 use Rattle.afdx_command_conform.proofs.PortLemmas.{came-key, fresh-port}
@@ -31,7 +31,7 @@ pub returns-in_default-clause-stands : goal.returns-in_default-clause-stands
 returns-in_default-clause-stands c t c' until time frames lines named-is e le behind few running stand =
     let h = c.args.heading.now in
     let a : Arrival = arrival_with c.args.n h.time h.side h.port (bytes_of c.args.frame) in
-    let named : place_named c.args.self.now.sight.tables.now a.bytes ≡ None =
+    let named : place_named c.args.self.now.tables.now a.bytes ≡ None =
     sym named-is ∙ c.in_default.is in
     record {
       lawful = stand.lawful;
@@ -44,7 +44,7 @@ returns-in_default-clause-stands c t c' until time frames lines named-is e le be
 
 pub returns-then-not-is_heard-clause-stands : goal.returns-then-not-is_heard-clause-stands
 returns-then-not-is_heard-clause-stands c t c' until time frames lines named-is e le behind few running stand =
-    let r : Rows = c.args.self.now.sight.tables.now in
+    let r : Rows = c.args.self.now.tables.now in
     let h = c.args.heading.now in
     let a : Arrival = arrival_with c.args.n h.time h.side h.port (bytes_of c.args.frame) in
     let link : ℕ = c.in-Some.link in
@@ -69,22 +69,24 @@ returns-then-not-is_heard-clause-stands c t c' until time frames lines named-is 
 
 pub loop-rank-init : goal.loop-rank-init
 loop-rank-init c = record {
-  sight = refl;
+  tables = refl;
   leeway = refl;
+  taps = refl;
   ended = refl;
   kept = λ c' until time given lines row at by sight le start all few k.
       let h = c.args.heading.now in
-      come-first c.args.self.now.sight.tables.now c' until time h.side c.in-Some.link row
+      come-first c.args.self.now.tables.now c' until time h.side c.in-Some.link row
       (arrival_with c.args.n h.time h.side h.port (bytes_of c.args.frame)) given lines c.args.self.now.kept k;
 }
 
 pub loop-rank-preserved : goal.loop-rank-preserved
 loop-rank-preserved c = record {
-  sight = c.loop-rank.invariant.sight;
+  tables = c.loop-rank.invariant.tables;
   leeway = c.loop-rank.invariant.leeway;
+  taps = c.loop-rank.invariant.taps;
   ended = c.loop-rank.invariant.ended;
   kept = λ c' until time given lines row at by sight le start all few k.
-      let t : Rows = c.args.self.now.sight.tables.now in
+      let t : Rows = c.args.self.now.tables.now in
       let h = c.args.heading.now in
       let x : Arrival = arrival_with c.args.n h.time h.side h.port (bytes_of c.args.frame) in
       let s : ℕ = c.receiver-system.result.0 in
@@ -105,8 +107,7 @@ loop-rank-preserved c = record {
       (any-fewer (c'.sight.is_seen h.side) (port_of t s) (map (port_of t) (take rank row.to))
       (fresh-port t link row rank s c.link.ensures.lawful at is lt)) in
       let sees : c'.sight.is_seen h.side (port_of t s) ≡ true =
-      ap (λ (p : Sight). p.is_seen h.side (port_of t s)) (sym sight) ∙ sym c.is_seen_to.ensures
-      ∙ c.if-not-is_seen_to.false in
+      ap (λ (p : Sight). p.is_seen h.side (port_of t s)) (sym sight) ∙ sym c.is_seen.ensures ∙ c.if-not-is_seen.false in
       let from : arrival_of c.new-arrived.result ≡ x = c.new-arrived.ensures.given
       ∙ ap (λ b. arrival_with c.args.n h.time h.side h.port b) (c.in_ok-share.ensures ∙ c.in_ok-bytes.ensures) in
       come-next t c' until time h.side link row rank s x given lines c.come_to.new.kept c.link.ensures.lawful at is lt
@@ -117,19 +118,20 @@ loop-rank-preserved c = record {
       (λ le' start' all'. c.in_ok-come_to.ensures c' until time before lines row at (any-in row.to rank s is lt)
       (record { by = by; sight = sight })
       (λ z rule. c.new-arrived.ensures.judged z (rule ∙ ap (λ (p : Sight). p.rule row) (sym sight)
-      ∙ sym (c.rule-rule.ensures row at))) le' start' all'
+      ∙ sym (c.rule_at-rule.ensures row at))) le' start' all'
       (subst (λ (g : Given). length g.came + 1 < most_held) (sym same) (few key))
       (c.loop-rank.invariant.kept c' until time given lines row at by sight le start all few k)) le start
       (subst (λ (g : Given). AllByRecursion (λ w. w.time ≤ h.time) g.came) (sym same) (all key)));
 }
 
-pub loop-rank-preserved-then-not-is_seen_to : goal.loop-rank-preserved-then-not-is_seen_to
-loop-rank-preserved-then-not-is_seen_to c = record {
-  sight = c.loop-rank.invariant.sight;
+pub loop-rank-preserved-then-not-is_seen : goal.loop-rank-preserved-then-not-is_seen
+loop-rank-preserved-then-not-is_seen c = record {
+  tables = c.loop-rank.invariant.tables;
   leeway = c.loop-rank.invariant.leeway;
+  taps = c.loop-rank.invariant.taps;
   ended = c.loop-rank.invariant.ended;
   kept = λ c' until time given lines row at by sight le start all few k.
-      let t : Rows = c.args.self.now.sight.tables.now in
+      let t : Rows = c.args.self.now.tables.now in
       let h = c.args.heading.now in
       let x : Arrival = arrival_with c.args.n h.time h.side h.port (bytes_of c.args.frame) in
       let s : ℕ = c.receiver-system.result.0 in
@@ -143,8 +145,7 @@ loop-rank-preserved-then-not-is_seen_to c = record {
       let lt : rank < length row.to = subst (λ (r : LinkRow). rank < length r.to) mine
       (omega (arith, test, len, count)) in
       let unseen : c'.sight.is_seen h.side (port_of t s) ≡ false =
-      ap (λ (p : Sight). p.is_seen h.side (port_of t s)) (sym sight) ∙ sym c.is_seen_to.ensures
-      ∙ c.if-not-is_seen_to.true in
+      ap (λ (p : Sight). p.is_seen h.side (port_of t s)) (sym sight) ∙ sym c.is_seen.ensures ∙ c.if-not-is_seen.true in
       come-past t c' until time h.side link row rank s x given lines c.loop-rank.self.kept
       (c.receiver-system.ensures.is row at) lt unseen
       (c.loop-rank.invariant.kept c' until time given lines row at by sight le start all few k);
@@ -152,7 +153,7 @@ loop-rank-preserved-then-not-is_seen_to c = record {
 
 pub returns-clause-stands : goal.returns-clause-stands
 returns-clause-stands c t c' until time frames lines named-is e le behind few running stand =
-    let r : Rows = c.args.self.now.sight.tables.now in
+    let r : Rows = c.args.self.now.tables.now in
     let h = c.args.heading.now in
     let a : Arrival = arrival_with c.args.n h.time h.side h.port (bytes_of c.args.frame) in
     let link : ℕ = c.in-Some.link in
@@ -186,9 +187,10 @@ returns-clause-stands c t c' until time frames lines named-is e le behind few ru
     subst (λ (x : Rows). StreamsStand x c' until (frame_with Came a ∷ frames) lines time c.loop-rank.self)
     stand.tables (record {
       lawful = c.link.ensures.lawful;
-      tables = ap (λ (s : code.Sight). s.tables.now) c.loop-rank.invariant.sight;
+      tables = ap (λ (b : Bor Rows). b.now) c.loop-rank.invariant.tables;
       by = ap (λ l. leeway_of l) c.loop-rank.invariant.leeway ∙ mine.by;
-      sight = ap (λ s. sight_of s) c.loop-rank.invariant.sight ∙ mine.sight;
+      sight = ap₂ (λ (u : Bor Rows) (p : Bor code.Taps). sight_in u.now p.now) c.loop-rank.invariant.tables
+          c.loop-rank.invariant.taps ∙ mine.sight;
       kept = subst (λ o. AreKept r c' until o time (given_of r c' (frame_with Came a ∷ frames)) lines
           c.loop-rank.self.kept)
           (sym (c.loop-rank.invariant.ended ∙ running)) joined;

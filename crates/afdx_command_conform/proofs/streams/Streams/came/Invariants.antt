@@ -17,17 +17,18 @@ use Rattle.afdx_command_conform.proofs.streams.Streams.came.Given as goal
 
 abbrev pub invariant-loop-rank : goal.invariant-loop-rank
 invariant-loop-rank l = record {
-  sight : l.self.sight ≡ l.fn.self.sight;
+  tables : l.self.tables ≡ l.fn.self.tables;
   leeway : l.self.leeway ≡ l.fn.self.leeway;
+  taps : l.self.taps ≡ l.fn.self.taps;
   ended : l.self.ended ≡ l.fn.self.ended;
   kept : (c : Choices) (until time : ℕ) (given : Key → Given) (lines : List Due) (row : LinkRow)
-      → slice_get l.fn.self.sight.tables.now.links l.link ≡ Some row → leeway_of l.fn.self.leeway ≡ c.by
+      → slice_get l.fn.self.tables.now.links l.link ≡ Some row → leeway_of l.fn.self.leeway ≡ c.by
       → seen_by l.fn.self ≡ c.sight
       → time ≤ l.heading.time → from_time c.by.start ≤ l.heading.time
       → ((k : Key) → AllByRecursion (λ x. x.time ≤ l.heading.time) (given k).came)
       → ((k : Key) → length (given k).came + 1 < most_held)
-      → AreKept l.fn.self.sight.tables.now c until None time given lines l.fn.self.kept
-      → AreKept l.fn.self.sight.tables.now c until None time
-      (came_to l.heading.side l.link (seen_ports l.fn.self.sight.tables.now c.sight l.heading.side (take l.rank row.to))
+      → AreKept l.fn.self.tables.now c until None time given lines l.fn.self.kept
+      → AreKept l.fn.self.tables.now c until None time
+      (came_to l.heading.side l.link (seen_ports l.fn.self.tables.now c.sight l.heading.side (take l.rank row.to))
       (arrival_with l.n l.heading.time l.heading.side l.heading.port (bytes_of l.frame)) given) lines l.self.kept;
 }

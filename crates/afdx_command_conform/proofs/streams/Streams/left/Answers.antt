@@ -1,5 +1,6 @@
 use Rattle.std.proofs.Common.{true, false, ◌&&◌, ◌∷◌, ◌≡◌, ℕ, None, Some, get_or, refl, sym, ap, ◌∙◌, subst, arith}
 use Rattle.std.proofs.lemmas.Option.{slice_get-get_or}
+use Rattle.std.specs.Prelude.{is_some}
 use Rattle.afdx_law_bounds.specs.Tables.{port_of}
 use Rattle.afdx_config.specs.Rows.{LinkRow, Rows}
 use Rattle.afdx_police.specs.Arrival.{Arrival, arrival_with}
@@ -9,7 +10,7 @@ use Rattle.afdx_conform.specs.declared.finding.Finding.TheVariants.{Strange}
 use Rattle.afdx_frame.specs.Parts.{bytes_of}
 use Rattle.afdx_command_conform.specs.Choices.{counts}
 use Rattle.afdx_command_conform.specs.Sight.{Sight}
-use Rattle.afdx_command_conform.specs.Tapped.{is_heard, is_judged, is_known_in}
+use Rattle.afdx_command_conform.specs.Tapped.{is_heard, is_judged}
 use Rattle.afdx_command_conform.specs.Frames.{frame_with, gone_of, is_stranger, place_named}
 use Rattle.afdx_command_conform.specs.Keeping.{AreKept, given_of, with_left, with_strange}
 use Rattle.afdx_command_conform.specs.Keys.{key_with}
@@ -23,9 +24,9 @@ use Rattle.afdx_command_conform.proofs.StrangerLemmas.{stream-heard}
 use Rattle.afdx_command_conform.proofs.JoinLemmas.{counted-behind, join-left, join-strange, join-unseen, left-few, left-start}
 use Rattle.afdx_command_conform.proofs.streams.Streams.left.Goals as goal
 
-pub returns-then-not-is_seen-clause-stands : goal.returns-then-not-is_seen-clause-stands
-returns-then-not-is_seen-clause-stands c t c' until time frames lines named-is e le behind few running stand =
-    let r : Rows = c.args.self.now.sight.tables.now in
+pub returns-then-not-is_tapped-clause-stands : goal.returns-then-not-is_tapped-clause-stands
+returns-then-not-is_tapped-clause-stands c t c' until time frames lines named-is e le behind few running stand =
+    let r : Rows = c.args.self.now.tables.now in
     let h = c.args.heading.now in
     let a : Arrival = arrival_with c.args.n h.time h.side h.port (bytes_of c.args.frame) in
     let link : ℕ = c.in-Some.link in
@@ -40,7 +41,7 @@ returns-then-not-is_seen-clause-stands c t c' until time frames lines named-is e
     subst (λ (p : Sight). is_stranger r p a ≡ false) stand.sight
     (sym (c.in-Some.ensures.strange a refl refl named-is)) in
     let unseen : c'.sight.is_seen h.side h.port ≡ false =
-    ap (λ (p : Sight). p.is_seen h.side h.port) (sym stand.sight) ∙ sym c.is_seen.ensures ∙ c.if-not-is_seen.true in
+    ap (λ (p : Sight). p.is_seen h.side h.port) (sym stand.sight) ∙ sym c.is_tapped.ensures ∙ c.if-not-is_tapped.true in
     subst (λ (x : Rows). StreamsStand x c' until (frame_with Left a ∷ frames) lines time c.args.self.now) stand.tables
     (record {
       lawful = mine.lawful;
@@ -54,7 +55,7 @@ returns-then-not-is_seen-clause-stands c t c' until time frames lines named-is e
 
 pub returns-in-Some-clause-stands : goal.returns-in-Some-clause-stands
 returns-in-Some-clause-stands c t c' until time frames lines named-is e le behind few running stand =
-    let r : Rows = c.args.self.now.sight.tables.now in
+    let r : Rows = c.args.self.now.tables.now in
     let h = c.args.heading.now in
     let a : Arrival = arrival_with c.args.n h.time h.side h.port (bytes_of c.args.frame) in
     let link : ℕ = c.in-Some.link in
@@ -75,8 +76,8 @@ returns-in-Some-clause-stands c t c' until time frames lines named-is e le behin
     subst (λ (p : Sight). is_stranger r p a ≡ false) stand.sight
     (sym (c.in-Some.ensures.strange a refl refl named-is)) in
     let sees : c'.sight.is_seen h.side h.port ≡ true =
-    ap (λ (p : Sight). p.is_seen h.side h.port) (sym stand.sight) ∙ sym c.is_seen.ensures ∙
-    c.if-not-is_seen.false in
+    ap (λ (p : Sight). p.is_seen h.side h.port) (sym stand.sight) ∙ sym c.is_tapped.ensures ∙
+    c.if-not-is_tapped.false in
     let judges : is_judged r c'.sight h.side l h.port ≡ true =
     ap (λ v. v && c'.sight.is_seen h.side h.port) (stream-heard r c'.sight a link l own named at) ∙ sees in
     let left : gone_of (arrival_with c.args.n h.time h.side h.port c.in_ok-bytes.bytes) ≡ gone_of a =
@@ -103,18 +104,20 @@ returns-in-Some-clause-stands c t c' until time frames lines named-is e le behin
 
 pub returns-clause-stands : goal.returns-clause-stands
 returns-clause-stands c t c' until time frames lines named-is e le behind few running stand =
-    let r : Rows = c.args.self.now.sight.tables.now in
+    let r : Rows = c.args.self.now.tables.now in
     let h = c.args.heading.now in
     let a : Arrival = arrival_with c.args.n h.time h.side h.port (bytes_of c.args.frame) in
     let key : Key = key_with h.side h.port None in
     let mine : StreamsStand r c' until frames lines time c.args.self.now =
     subst (λ (x : Rows). StreamsStand x c' until frames lines time c.args.self.now) (sym stand.tables) stand in
+    let named : place_named r a.bytes ≡ c.args.named =
+    sym named-is in
     let strange : is_stranger r c'.sight a ≡ true =
     subst (λ (p : Sight). is_stranger r p a ≡ true) stand.sight
     (sym (c.in_default.ensures.strange a refl refl named-is)) in
-    let why : c.why_strange-why.result ≡ stranger_reason c'.sight a.bytes =
-    c.why_strange-why.ensures ∙ ap (λ b. stranger_by b (fault_of None 0 a.bytes)) (c.is_known.ensures a.bytes named-is
-    ∙ ap (λ (p : Sight). is_known_in p a.bytes) stand.sight) in
+    let why : c.why_strange-why.result ≡ stranger_reason r a.bytes =
+    c.why_strange-why.ensures ∙ ap (λ b. stranger_by b (fault_of None 0 a.bytes)) (c.is_some.ensures
+    ∙ ap is_some (sym named)) in
     let old : AreKept r c' until None time (given_of r c' frames) lines c.args.self.now.kept =
     subst (λ o. AreKept r c' until o time (given_of r c' frames) lines c.args.self.now.kept) running mine.kept in
     let all = counted-behind r c' frames h.time behind in

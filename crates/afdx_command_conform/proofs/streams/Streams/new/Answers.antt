@@ -8,6 +8,6 @@ returns-clause-stands c c' until by sight = record {
   tables = refl;
   by = by;
   sight = sight;
-  kept = given-none c.args.sight.tables.now c' until c.in_ok-kept.kept
-      (c.in_ok-kept.ensures c.args.sight.tables.now c' until 0 (ap (λ n. 512 + 64 * n) c.link_count.ensures.count));
+  kept = given-none c.args.tables.now c' until c.in_ok-kept.kept
+      (c.in_ok-kept.ensures c.args.tables.now c' until 0 (ap (λ n. 512 + 64 * n) c.link_count.ensures.count));
 }

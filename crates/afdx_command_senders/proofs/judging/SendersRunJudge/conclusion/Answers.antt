@@ -3,8 +3,8 @@ use Rattle.afdx_config.specs.Rows.{Rows}
 use Rattle.afdx_input_runs.specs.Joining.{frames_of}
 use Rattle.afdx_text.specs.declared.conform_line.Answer.{Answer}
 use Rattle.afdx_command_conform.specs.Tapped.{Taps, unseen_of}
-use Rattle.afdx_input_sources.specs.Tapping.{no_taps, taps_in}
-use Rattle.afdx_command_conform.specs.Sight.{Sight, of_tables}
+use Rattle.afdx_input_sources.specs.Tapping.{no_taps}
+use Rattle.afdx_command_conform.specs.Sight.{of_tables}
 use Rattle.afdx_command_senders.specs.SenderLines.{found_of, sent_of}
 use Rattle.afdx_command_senders.specs.SenderTexts.{told_lines}
 use Rattle.afdx_command_senders.proofs.ConcludedLemmas.{conclusion-same, conclusion-with}
@@ -30,11 +30,8 @@ returns c = λ k start end past h.
             (sent_of k frames) _ (unseen_of k.0.tables (of_tables k.0.tables no_taps)) h.writes.findings
             (c.totals-senders.ensures k frames h.told h.works h.have) h.works.left_out
             (c.unseen_of-unseen.ensures
-            ∙ ap (λ (o : Sight). unseen_of c.of_tables-sight.result.tables.now o) c.of_tables-sight.ensures.sees
-            ∙ ap (λ (t : Rows). unseen_of t (of_tables c.args.self.now.tables.now (taps_in c.none-taps.result)))
-            c.of_tables-sight.ensures.tables
             ∙ ap (λ (p : Taps). unseen_of c.args.self.now.tables.now (of_tables c.args.self.now.tables.now p))
-            c.none-taps.ensures
+            c.none.ensures
             ∙ ap (λ (t : Rows). unseen_of t (of_tables t no_taps)) h.works.tables);
       };
       written = h.writes.written;

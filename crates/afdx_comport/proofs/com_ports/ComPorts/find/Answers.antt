@@ -1,14 +1,7 @@
-use Rattle.std.proofs.Common.{◌∙◌, sym}
+use Rattle.std.proofs.Common.{◌∙◌}
 use Rattle.afdx_comport.specs.Ports.{is_for}
-use Rattle.afdx_comport.proofs.HeardLemmas.{not-heard}
 use Rattle.afdx_comport.proofs.PlaceLemmas.{known_at}
 use Rattle.afdx_comport.proofs.com_ports.ComPorts.find.Goals as goal
-
-pub returns-then-not-may_hold-clause-place : goal.returns-then-not-may_hold-clause-place
-returns-then-not-may_hold-clause-place c =
-    rw (← c.self.view_is)
-    (sym (not-heard c.self.inside.heard.marks c.self.inside.ports.items c.args.link.0 c.args.udp
-    c.self.invariant.2 (sym c.may_hold.ensures ∙ c.if-not-may_hold.true)))
 
 pub returns-clause-place : goal.returns-clause-place
 returns-clause-place c =

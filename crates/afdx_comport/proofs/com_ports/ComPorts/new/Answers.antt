@@ -2,7 +2,6 @@ use Rattle.std.proofs.Common.{◌≡◌, refl, sym, ◌∙◌, ap, ◌++◌, ◌
 use Rattle.afdx_config.specs.Rows.{port_row}
 use Rattle.afdx_comport.specs.Ports.{ports_at_first, port_at_first}
 use Rattle.afdx_comport.proofs.PlaceLemmas.{listed_passed, listed_added, places_added, found_added}
-use Rattle.afdx_comport.proofs.HeardLemmas.{heard-added}
 use Rattle.afdx_comport.proofs.com_ports.ComPorts.new.Goals as goal
 use Rattle.afdx_comport.proofs.com_ports.ComPorts.new.Goals.{then-eq+in_ok-insert+in_ok-new+in_ok-push, else-eq}
 
@@ -32,10 +31,6 @@ loop-index-preserved c =
                 (found_added system rows c.loop-index.index row
                 c.com-row.ensures.lawful.ports.triples c.com-row.ensures.row own
                 (rw before at c.loop-index.invariant.found));
-            heard = rw (w.heard-is, w.ports-is, now)
-                (heard-added c.loop-index.heard.marks w.add.new.self.marks (ports_at_first system
-                (take c.loop-index.index rows)) row w.add.ensures.kept w.add.ensures.added
-                (rw before at c.loop-index.invariant.heard));
           }
       | else-eq w ↦ record {
         so_far = rw w.ports-is (c.loop-index.invariant.so_far ∙ sym
@@ -43,6 +38,5 @@ loop-index-preserved c =
             (sym c.eq.ensures ∙ w.if-eq.false)));
         places = rw (w.places-is, w.ports-is) c.loop-index.invariant.places;
         found = rw w.ports-is c.loop-index.invariant.found;
-        heard = rw (w.ports-is, w.heard-is) c.loop-index.invariant.heard;
       }
     ]

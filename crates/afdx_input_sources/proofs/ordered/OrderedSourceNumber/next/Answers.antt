@@ -1,7 +1,7 @@
 use Rattle.std.proofs.Common.{rules, arith, refl, ap, sym, ◌∙◌, subst}
 use Rattle.afdx_input_sources.specs.OrderedSource.{HasOrdered}
-use Rattle.afdx_input_sources.proofs.StepLemmas.{drained, drained-fault, drains, drains-less, due-less, gives-due}
-use Rattle.afdx_input_sources.proofs.StepLemmas.{over-stage, same-settings}
+use Rattle.afdx_input_sources.proofs.StepLemmas.{drained, drained-fault, drains, drains-less, over-stage}
+use Rattle.afdx_input_sources.proofs.StepLemmas.{same-settings}
 use Rattle.afdx_input_sources.proofs.ordered.OrderedSourceNumber.next.Goals as goal
 
 pub loop-self-preserved : goal.loop-self-preserved
@@ -10,26 +10,8 @@ loop-self-preserved g c =
       gave = λ start past h.
           c.read_one.ensures.none start past (c.loop-self.invariant.gave start past h) (search rules);
       settings = c.read_one.ensures.settings ∙ c.loop-self.invariant.settings;
-      hold = c.read_one.ensures.hold ∙ c.loop-self.invariant.hold;
+      most = c.read_one.ensures.most ∙ c.loop-self.invariant.most;
       fewer = omega (arith, no_more, c.loop-self.invariant.fewer);
-    }
-
-pub returns-then-is_due : goal.returns-then-is_due
-returns-then-is_due g c =
-    let S = g.S.Source in
-    let hands = c.hand_on_due.ensures in
-    let less = due-less S.left_of c.loop-self.self c.hand_on_due.new.self (search rules) hands in record {
-      item = λ start past h ok.
-          let k = gives-due S.current S.Gave S.Ended S.Stopped start c.loop-self.self c.loop-self.input past
-          (search rules) (c.loop-self.invariant.gave start past h) c.hand_on_due.new.self c.if-is_due.ensures hands in
-          (k.gave_them, k.follows, tt);
-      end = λ start past h ok. absurd (cc);
-      stop = λ start past h. tt;
-      unwritten = refl;
-      settings = same-settings _ _ _ _
-          (ap (λ o. S.settings o.source) hands.new_is ∙ c.loop-self.invariant.settings)
-          (ap (λ o. o.hold) hands.new_is ∙ c.loop-self.invariant.hold);
-      less = λ ok. omega (arith, less, c.loop-self.invariant.fewer);
     }
 
 pub returns-in-Given-clause-item : goal.returns-in-Given-clause-item
@@ -51,7 +33,7 @@ returns-then-hand_on g c =
       unwritten = refl;
       settings = same-settings _ _ _ _
           (ap (λ o. S.settings o.source) hands.new_is ∙ c.loop-self.invariant.settings)
-          (ap (λ o. o.hold) hands.new_is ∙ c.loop-self.invariant.hold);
+          (ap (λ o. o.most) hands.new_is ∙ c.loop-self.invariant.most);
       less = λ ok. omega (arith, less, c.loop-self.invariant.fewer);
     }
 
@@ -69,7 +51,7 @@ returns-in-Stopped g c =
       unwritten = refl;
       settings = same-settings _ _ _ _
           (ap (λ o. S.settings o.source) none.1 ∙ c.loop-self.invariant.settings)
-          (ap (λ o. o.hold) none.1 ∙ c.loop-self.invariant.hold);
+          (ap (λ o. o.most) none.1 ∙ c.loop-self.invariant.most);
       less = λ ok. absurd (cc);
     }
 
@@ -89,6 +71,6 @@ returns-in-Reading-stage g c =
       unwritten = refl;
       settings = same-settings _ _ _ _
           (ap (λ o. S.settings o.source) none.1 ∙ c.loop-self.invariant.settings)
-          (ap (λ o. o.hold) none.1 ∙ c.loop-self.invariant.hold);
+          (ap (λ o. o.most) none.1 ∙ c.loop-self.invariant.most);
       less = λ ok. absurd (cc);
     }

@@ -10,7 +10,7 @@ invariant-loop-self g l = record {
       HasOrdered g.S.Source.Gave g.S.Source.Ended g.S.Source.Stopped start l.fn.self l.fn.input past →
       HasOrdered g.S.Source.Gave g.S.Source.Ended g.S.Source.Stopped start l.self l.input past;
   settings : g.S.Source.settings l.self.source ≡ g.S.Source.settings l.fn.self.source;
-  hold : l.self.hold ≡ l.fn.self.hold;
+  most : l.self.most ≡ l.fn.self.most;
   fewer : left_in_order g.S.Source.left_of l.self ≤ left_in_order g.S.Source.left_of l.fn.self;
 }
 

@@ -11,6 +11,6 @@ invariant_of-self c =
     record {
       ranked =
           ∣ ranked-set c.args.self.now.keys c.args.self.now.least c.args.place
-          (key_of c.args.order.0 c.args.place) c.least_in_group.result (c.args.place / 4) ranked refl
-          (omega (arith, c.requires.place, groups)) c.least_in_group.ensures ∣₁;
+          (key_of c.args.order.0 c.args.place) c.least_in.result (c.args.place / 4) ranked refl
+          (omega (arith, c.requires.place, groups)) c.least_in.ensures ∣₁;
     }

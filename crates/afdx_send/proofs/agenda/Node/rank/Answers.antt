@@ -4,7 +4,9 @@ use Rattle.afdx_send.proofs.agenda.Node.rank.Goals as goal
 
 pub returns-clause-rank : goal.returns-clause-rank
 returns-clause-rank c = rw (← c.self.view_is)
-    (c.number.ensures.same ∙ (ranked c.self.inside.key c.number.ensures.fits).rank)
+    (c.joined.ensures.sum
+    ∙ (ranked c.self.inside.time c.self.inside.place c.joined.ensures.time c.joined.ensures.place).rank)
 
 pub returns-clause-small : goal.returns-clause-small
-returns-clause-small c = rw (← c.self.view_is) ((ranked c.self.inside.key c.number.ensures.fits).small)
+returns-clause-small c = rw (← c.self.view_is)
+    ((ranked c.self.inside.time c.self.inside.place c.joined.ensures.time c.joined.ensures.place).small)

@@ -1,10 +1,9 @@
-use Rattle.std.proofs.Common.{refl, ap, sym, subst, ◌∙◌, ◌≡◌, ◌≤◌, ◌+◌, slice_set, ℕ, Option, IfSome}
+use Rattle.std.proofs.Common.{refl, ap, ◌∙◌, ◌≡◌, ◌+◌, slice_set}
 use Rattle.std.proofs.lemmas.List.{get_or-set_same}
 use Rattle.afdx_send.specs.Agenda.{nexts}
-use Rattle.afdx_send.specs.declared.line.SystemLink.{SystemLink}
 use Rattle.afdx_send.specs.Lines.{held_by}
 use Rattle.afdx_send.specs.Regulator.{next_time_of, waiting_of}
-use Rattle.afdx_send.proofs.AddLemmas.{submission_stands, stays_idle, same_stands, same_idle, added_limit}
+use Rattle.afdx_send.proofs.AddLemmas.{submission_stands, stays_idle, same_stands, same_idle}
 use Rattle.afdx_send.proofs.AddLemmas.{pushed_sum, frames_more, frames_same}
 use Rattle.afdx_send.proofs.RegulatorLemmas.{on_err}
 use Rattle.afdx_send.proofs.StandLemmas.{read_at}
@@ -41,29 +40,6 @@ returns-in_err-push-clause-idle c = same_idle c.args.self.now c.args.place c.ind
       number = refl;
     })
     c.requires.idle
-
-pub set-requires-clause-limit : goal.set-requires-clause-limit
-set-requires-clause-limit c =
-    let w = c.args.self.now in
-    let line = c.index_mut.result.now in
-    let line' : SystemLink = record line { regulator = c.push.new.self } in
-    let has = read_at w.lines.items c.args.place line c.requires.place c.index_mut.ensures.value in
-    let read = c.index.ensures ∙ get_or-set_same w.lines.items c.args.place _ c.index.result.now c.requires.place in
-    let next = c.next_time-next.ensures ∙ ap (λ l. next_time_of l.regulator) read in
-    subst (λ (o : Option ℕ). IfSome o (λ t. t ≤ 1000032768000000)) (sym next)
-    (added_limit w c.requires.sound.0 c.args.place c.args.index line line' c.args.message c.requires.sound.1 has
-    (record {
-      can = c.requires.queue line has;
-      pushes = c.in_ok-push.ensures.ok;
-      bag = c.in_ok-push.ensures.bag;
-      earliest = c.in_ok-push.ensures.earliest;
-      served = c.in_ok-push.ensures.served;
-      vl = refl;
-      least = refl;
-      longest = refl;
-      number = refl;
-    })
-    c.requires.limit c.requires.clock)
 
 pub returns-clause-ok : goal.returns-clause-ok
 returns-clause-ok c = λ h st.

@@ -6,36 +6,40 @@ use Rattle.afdx_send.specs.Calls.{Emits}
 use Rattle.afdx_send.specs.Sender.{KnowsIdle, SenderHistory, at, with_emission, StandsFor, IsNextIn, ready_count}
 use Rattle.afdx_send.proofs.CallLemmas.{emitted, none_ends, lacked}
 use Rattle.afdx_send.proofs.EmitLemmas.{emits, left_next, no_more}
-use Rattle.afdx_send.proofs.IdleLemmas.{knows_ready, none_of, not_none}
+use Rattle.afdx_send.proofs.IdleLemmas.{knows_ready}
 use Rattle.afdx_send.proofs.sender_state.SenderState.emit.Goals as goal
 
-pub unreachable-requires : goal.unreachable-requires
-unreachable-requires c =
-    let none : c.prepare.new.self.ready ≡ None = sym c.take.ensures.value ∙ c.in_default.is in
-    not_none c.prepare.new.self.ready c.is_none.result c.is_none.ensures c.if-is_none.false none
+pub returns-in_default-clause-sound : goal.returns-in_default-clause-sound
+returns-in_default-clause-sound c =
+    let w = c.prepare.new.self in
+    let none : w.ready ≡ None = sym c.take.ensures.value ∙ c.in_default.is in
+    let h = at c.requires.sound.0 c.args.until in (
+      h,
+      subst (λ (o : Option (Left Frame)). StandsFor (record w { ready = o }) h)
+          (none ∙ sym c.take.ensures.after)
+          (c.prepare.ensures.stands c.requires.sound.0 c.requires.sound.1),
+    )
 
-pub returns-then-is_none-clause-sound : goal.returns-then-is_none-clause-sound
-returns-then-is_none-clause-sound c =
-    (at c.requires.sound.0 c.args.until, c.prepare.ensures.stands c.requires.sound.0 c.requires.sound.1)
-
-pub returns-then-is_none-clause-emits : goal.returns-then-is_none-clause-emits
-returns-then-is_none-clause-emits c =
+pub returns-in_default-clause-emits : goal.returns-in_default-clause-emits
+returns-in_default-clause-emits c =
     let w = c.prepare.new.self in
     let until = c.args.until in
-    let none = none_of w.ready c.is_none.result c.is_none.ensures c.if-is_none.true in
+    let none : w.ready ≡ None = sym c.take.ensures.value ∙ c.in_default.is in
     let laws = c.emissions_are_lawful.ensures in
     let last = λ (h : SenderHistory) (st : StandsFor c.args.self.now h) (s : Turn Frame) (n : IsNextIn h s).
     subst (λ (t : ℕ). t < s.end) c.prepare.ensures.clock
     (no_more w (at h until) c.due_is_next.ensures.quiet (c.prepare.ensures.stands h st)
     (c.prepare.ensures.idle none) s n) in
-    none_ends c.args.self.now w until laws.in_time laws.buildable laws.lawful
+    subst (λ (o : Option (Left Frame)). Emits c.args.self.now (record w { ready = o }) until (Ok None))
+    (none ∙ sym c.take.ensures.after)
+    (none_ends c.args.self.now w until laws.in_time laws.buildable laws.lawful
     c.prepare.ensures.stands (λ h s st n. last h st s n)
     (λ h st late. c.prepare.ensures.done h st late none) (
       at c.requires.sound.0 until,
       c.prepare.ensures.stands c.requires.sound.0 c.requires.sound.1,
       λ s n. last c.requires.sound.0 c.requires.sound.1 s n,
     )
-    c.prepare.ensures.clock c.prepare.ensures.held
+    c.prepare.ensures.clock c.prepare.ensures.held)
 
 pub returns-in-Ok-clause-sound : goal.returns-in-Ok-clause-sound
 returns-in-Ok-clause-sound c =
@@ -91,6 +95,13 @@ returns-in-Err-clause-emits c =
     c.taken_are_on_schedule.ensures.turns in
     (n.slot, n.next, n.in_time))
     c.prepare.ensures.clock c.prepare.ensures.held)
+
+pub returns-in_default-clause-knows : goal.returns-in_default-clause-knows
+returns-in_default-clause-knows c =
+    let w = c.prepare.new.self in
+    let none : w.ready ≡ None = sym c.take.ensures.value ∙ c.in_default.is in
+    subst (λ (o : Option (Left Frame)). KnowsIdle (record w { ready = o })) (none ∙ sym c.take.ensures.after)
+    c.prepare.ensures.knows
 
 pub returns-in-Ok-clause-knows : goal.returns-in-Ok-clause-knows
 returns-in-Ok-clause-knows c =

@@ -1,10 +1,10 @@
-use Rattle.std.proofs.Common.{arith, refl, ap, sym, subst, ◌∙◌, slice_set, ◌≡◌, ◌≤◌, ℕ, Option, IfSome}
+use Rattle.std.proofs.Common.{arith, refl, ap, ◌∙◌, slice_set, ◌≡◌}
 use Rattle.std.proofs.lemmas.List.{get_or-set_same}
 use Rattle.afdx_send.specs.Regulator.{next_time_of}
 use Rattle.afdx_send.specs.Agenda.{nexts}
 use Rattle.afdx_send.specs.Sender.{port_history}
 use Rattle.afdx_send.proofs.KeptLemmas.{kept}
-use Rattle.afdx_send.proofs.StandLemmas.{due_place, line_read, in_limits, release_stands, held_after, released_limit}
+use Rattle.afdx_send.proofs.StandLemmas.{due_place, line_read, in_limits, release_stands, held_after}
 use Rattle.afdx_send.proofs.sender_state.SenderState.release.Goals as goal
 
 pub release-released-requires-clause-limit : goal.release-released-requires-clause-limit
@@ -21,19 +21,6 @@ index-requires c = let ok = c.args.self.now.lines.ok.0 in
 pub set-requires-clause-place : goal.set-requires-clause-place
 set-requires-clause-place c = let a = c.requires.sound.1.agenda_count in
     omega (arith, due_place c.args.self.now c.args.time c.args.place c.requires.soonest)
-
-pub set-requires-clause-limit : goal.set-requires-clause-limit
-set-requires-clause-limit c =
-    let w = c.args.self.now in
-    let line' = c.release-released.new.self in
-    let below = due_place w c.args.time c.args.place c.requires.soonest in
-    let read : c.index.result.now ≡ line' = c.index.ensures
-    ∙ get_or-set_same w.lines.items c.args.place line' c.index.result.now below in
-    let next = c.next_time-next.ensures ∙ ap (λ l. next_time_of l.regulator) read in
-    let d = line_read w c.args.time c.args.place c.index_mut.result.now c.requires.soonest c.index_mut.ensures.value in
-    subst (λ (o : Option ℕ). IfSome o (λ t. t ≤ 1000032768000000)) (sym next)
-    (released_limit w c.requires.sound.0 c.args.time c.args.place c.index_mut.result.now line'
-    c.release-released.result c.requires.sound.1 d.has c.release-released.ensures.released)
 
 pub put-requires-clause-limit : goal.put-requires-clause-limit
 put-requires-clause-limit c =
